@@ -1,0 +1,10 @@
+pub mod Ends
+pub mod FirstChar
+pub mod Identities
+pub mod LexicalExamples
+pub mod Longest
+pub mod Naming
+pub mod Numbers
+pub mod Pieces
+pub mod Spelled
+pub mod Tags

@@ -1,0 +1,11 @@
+pub mod Identity
+pub mod Lexical
+pub mod Limits
+pub mod Lines
+pub mod Number
+pub mod Order
+pub mod Spelled
+pub mod Tag
+pub mod TagFault
+pub mod Token
+pub mod formers

@@ -1,0 +1,169 @@
+//! Identifiers, keywords, and the literals that are spelled as words (JLS 3.8, 3.9, 3.10.3, 3.10.8).
+ghost use Rattle.std.specs.Prelude.{◌≡◌, ◌+◌, ◌<◌, ◌≤◌, length, IsTrue};
+ghost use Rattle.std.specs.List.{list_any};
+ghost use Rattle.std.specs.Str.{bytes_eq};
+ghost use Rattle.mol_base.specs.Lexical.Characters.{width, first};
+ghost use Rattle.mol_base.specs.Lexical.Names as spec;
+
+use crate::TokenKind;
+use crate::lexical::bytes::{byte_at, first_char, width};
+use crate::lexical::front::{Flaw, Front};
+
+/// The greatest number of bytes of an identifier.
+const LONGEST: usize = 255;
+
+/// The word at the front of bytes that begin with a character that may begin an identifier.
+#[tactic(auto, unfolding(crate::specs::Lexical::Names::name))]
+pub fn name(bytes: &[u8]) -> Front
+    ensures { result ≡ spec.name bytes.now }
+{
+    let len = name_len(bytes);
+    if LONGEST < len {
+        Front::Wrong(Flaw::NameTooLong, 0)
+    } else if len == 1 && byte_at(bytes, 0) == b'_' {
+        Front::Wrong(Flaw::BadChar, 0)
+    } else {
+        Front::Taken(word_kind(&bytes[..len]), len)
+    }
+}
+
+/// Whether the bytes begin with a character that may begin an identifier.
+#[tactic(auto, unfolding(crate::specs::Lexical::Names::starts_name))]
+pub fn starts_name(bytes: &[u8]) -> bool
+    ensures { result ≡ spec.starts_name bytes.now }
+{
+    match first_char(bytes) {
+        Some(ch) => is_start(ch),
+        None => false,
+    }
+}
+
+/// Whether the bytes begin with a character that may stand inside an identifier.
+#[tactic(auto, unfolding(crate::specs::Lexical::Names::goes_on))]
+fn goes_on(bytes: &[u8]) -> bool
+    ensures same { result ≡ spec.goes_on bytes.now }
+    ensures whole { IsTrue result → width (first bytes.now) ≤ length bytes.now }
+{
+    match first_char(bytes) {
+        Some(ch) => is_part(ch),
+        None => false,
+    }
+}
+
+#[tactic(auto, unfolding(crate::specs::Lexical::Names::is_start))]
+fn is_start(ch: char) -> bool
+    ensures { result ≡ spec.is_start ch }
+{
+    unicode_ident::is_xid_start(ch) || ch == '_' || ch == '$'
+}
+
+#[tactic(auto, unfolding(crate::specs::Lexical::Names::is_part))]
+fn is_part(ch: char) -> bool
+    ensures { result ≡ spec.is_part ch }
+{
+    is_start(ch) || unicode_ident::is_xid_continue(ch)
+}
+
+/// How many bytes the characters take that go on with an identifier.
+fn name_len(bytes: &[u8]) -> usize
+    ensures same { result ≡ spec.name_len 0 bytes.now }
+    ensures within { result ≤ length bytes.now }
+{
+    let mut passed = 0;
+    let mut rest = bytes;
+    while goes_on(rest) {
+        let step = width(byte_at(rest, 0));
+        passed += step;
+        rest = &rest[step..];
+    }
+    passed
+}
+
+/// What kind of token a word is.
+#[tactic(auto, unfolding(crate::specs::Lexical::Names::word_kind))]
+fn word_kind(name: &[u8]) -> TokenKind
+    ensures { result ≡ spec.word_kind name.now }
+{
+    if is_keyword(name) {
+        TokenKind::Keyword
+    } else if is_word_literal(name) {
+        TokenKind::Literal
+    } else {
+        TokenKind::Word
+    }
+}
+
+const KEYWORDS: [&[u8]; 50] = [
+    b"abstract",
+    b"assert",
+    b"boolean",
+    b"break",
+    b"byte",
+    b"case",
+    b"catch",
+    b"char",
+    b"class",
+    b"const",
+    b"continue",
+    b"default",
+    b"do",
+    b"double",
+    b"else",
+    b"enum",
+    b"extends",
+    b"final",
+    b"finally",
+    b"float",
+    b"for",
+    b"goto",
+    b"if",
+    b"implements",
+    b"import",
+    b"instanceof",
+    b"int",
+    b"interface",
+    b"long",
+    b"native",
+    b"new",
+    b"package",
+    b"private",
+    b"protected",
+    b"public",
+    b"return",
+    b"short",
+    b"static",
+    b"strictfp",
+    b"super",
+    b"switch",
+    b"synchronized",
+    b"this",
+    b"throw",
+    b"throws",
+    b"transient",
+    b"try",
+    b"void",
+    b"volatile",
+    b"while",
+];
+
+const WORD_LITERALS: [&[u8]; 3] = [b"true", b"false", b"null"];
+
+#[tactic(auto, unfolding(crate::specs::Lexical::Names::is_keyword, crate::specs::Lexical::Names::keywords))]
+fn is_keyword(name: &[u8]) -> bool
+    ensures { result ≡ spec.is_keyword name.now }
+{
+    is_one_of(name, &KEYWORDS)
+}
+
+#[tactic(auto, unfolding(crate::specs::Lexical::Names::is_word_literal, crate::specs::Lexical::Names::word_literals))]
+fn is_word_literal(name: &[u8]) -> bool
+    ensures { result ≡ spec.is_word_literal name.now }
+{
+    is_one_of(name, &WORD_LITERALS)
+}
+
+fn is_one_of(name: &[u8], words: &[&[u8]]) -> bool
+    ensures { result ≡ list_any (λ word. bytes_eq word.now name.now) words.now }
+{
+    words.iter().any(|word| *word == name)
+}

@@ -1,0 +1,169 @@
+//! A text, seen as its bytes.
+ghost use Rattle.std.specs.Prelude.{◌≡◌, ◌≢◌, ◌<◌, ◌^◌, [], length, IfOk, IfErr, string_bytes, IsUtf8, ◌==◌};
+ghost use Rattle.std.specs.Str.Lossy.{utf8_valid_len};
+ghost use Rattle.std.proofs.Common.{rules};
+ghost use Rattle.std.specs.Cmp.{partial_order_from_own_ties};
+ghost use Rattle.std.specs.Cmp.Rules.{comparing, hashing};
+ghost use Rattle.std.specs.Cmp.Lexicographic.{slice_cmp, pointwise};
+ghost use Rattle.std.specs.Hash as fed;
+ghost use Rattle.std.specs.Ordering.{nat_cmp, as_partial_cmp};
+
+use crate::OutOfMemory;
+use std::alloc::{AllocError, Global};
+use std::cmp::Ordering;
+use std::hash::{Hash, Hasher};
+use std::marker::Model;
+
+/// Bytes that are UTF-8. Contracts see the list of the bytes.
+#[derive(Debug, Drop)]
+pub struct Text {
+    chars: String,
+}
+
+impl Model for Text {
+    ghost use Rattle.std.specs.Prelude.{List, ℕ, string_bytes};
+    ghost use Rattle.std.specs.Coded.{coded_list, coded_ℕ};
+
+    ghost Value = { List ℕ };
+
+    ghost coded = { coded_list coded_ℕ };
+
+    ghost view = { λ text. string_bytes text.chars };
+}
+
+/// Why bytes are no text.
+#[derive(Clone, Copy, Debug, PartialEq, Eq, thiserror::Error)]
+pub enum TextFault {
+    /// The bytes are not UTF-8. The ill-formed sequence of least place begins at this byte.
+    #[error("not UTF-8 at byte {0}")]
+    NotUtf8(u32),
+    #[error("out of memory")]
+    OutOfMemory,
+}
+
+impl From<AllocError> for TextFault {
+    ghost use Rattle.std.specs.Prelude.{◌≡◌};
+    ghost use Rattle.mol_base.specs.declared.text.TextFault.TheVariants.{OutOfMemory as Wants};
+
+    ghost from_gives = { λ _ fault. fault ≡ Wants };
+
+    fn from(_: AllocError) -> TextFault {
+        TextFault::OutOfMemory
+    }
+}
+
+impl Text {
+    /// The text of these bytes, at most 4,294,967,295 of them.
+    ///
+    /// Refuses bytes that are not UTF-8 (RFC 3629) and names the first byte of the first ill-formed
+    /// sequence.
+    pub fn from_bytes(alloc: Global, bytes: &[u8]) -> Result<Text, TextFault>
+        requires { length bytes.now < 2 ^ 32 }
+        ensures ok { IfOk result (λ text. (text ≡ bytes.now) × IsUtf8 text) }
+        ensures bad { IfErr result (λ fault. fault ≢ TextFault.OutOfMemory →
+            ¬ (IsUtf8 bytes.now) × (fault ≡ TextFault.NotUtf8 (utf8_valid_len bytes.now))) }
+    {
+        match std::str::from_utf8(bytes) {
+            Ok(chars) => Ok(Text {
+                chars: String::from_str(alloc, chars)?,
+            }),
+            Err(fault) => Err(TextFault::NotUtf8(fault.valid_up_to() as u32)),
+        }
+    }
+
+    /// A text that equals a `str`.
+    pub fn from_str(alloc: Global, chars: &str) -> Result<Text, OutOfMemory>
+        ensures { IfOk result (λ text. text ≡ chars.now) }
+    {
+        Ok(Text {
+            chars: String::from_str(alloc, chars)?,
+        })
+    }
+
+    /// The text of a `String`, which goes in whole. It takes no memory.
+    pub fn from_string(chars: String) -> Text
+        ensures { result ≡ string_bytes chars }
+    {
+        Text { chars }
+    }
+
+    /// The text without bytes. It takes no memory.
+    pub fn empty(alloc: Global) -> Text
+        ensures { result ≡ [] }
+    {
+        Text {
+            chars: String::new(alloc),
+        }
+    }
+
+    /// The bytes. It takes no memory.
+    pub fn bytes(&self) -> &[u8]
+        ensures bytes { result.now ≡ self.now }
+        ensures utf8 { IsUtf8 self.now }
+    {
+        self.chars.as_bytes()
+    }
+
+    /// The bytes as a `str`. It takes no memory.
+    pub fn as_str(&self) -> &str
+        ensures { result.now ≡ self.now }
+    {
+        self.chars.as_str()
+    }
+
+    /// A text that equals this one.
+    pub fn copy(&self, alloc: Global) -> Result<Text, OutOfMemory>
+        ensures { IfOk result (λ copy. copy ≡ self.now) }
+    {
+        Text::from_str(alloc, self.chars.as_str())
+    }
+}
+
+impl PartialEq for Text {
+    ghost eq = { pointwise ◌==◌ };
+
+    ghost laws = { Prim.search (comparing, rules) };
+
+    fn eq(&self, other: &Text) -> bool {
+        self.chars == other.chars
+    }
+}
+
+impl Eq for Text {
+    ghost laws = { Prim.search (comparing, rules) };
+}
+
+/// Texts are ordered by their bytes.
+impl Ord for Text {
+    ghost cmp = { slice_cmp nat_cmp };
+
+    ghost total = { Prim.search (comparing, rules) };
+
+    ghost matches_partial_cmp = { Prim.search (comparing, rules) };
+
+    ghost matches_eq = { Prim.search (comparing, rules) };
+
+    fn cmp(&self, other: &Text) -> Ordering {
+        self.chars.cmp(&other.chars)
+    }
+}
+
+impl PartialOrd for Text {
+    ghost partial_cmp = { as_partial_cmp (slice_cmp nat_cmp) };
+
+    ghost laws = { partial_order_from_own_ties (Prim.search (comparing, rules)) (Prim.search (comparing, rules)) };
+
+    fn partial_cmp(&self, other: &Text) -> Option<Ordering> {
+        Some(self.cmp(other))
+    }
+}
+
+impl Hash for Text {
+    ghost hash_input = { fed.slice fed.u8 };
+
+    ghost respects_eq = { Prim.search (hashing, rules) };
+
+    fn hash<H: Hasher>(&self, state: &mut H) {
+        self.bytes().hash(state);
+    }
+}
