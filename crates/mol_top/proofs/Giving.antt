@@ -1,0 +1,36 @@
+-- What is read of a command's inputs, and what refuses them.
+use Rattle.std.proofs.Common.{◌≡◌, ℕ, List, ◌∙◌, ap, refl}
+use Rattle.std.specs.Prelude.{None, Some}
+use Rattle.std.specs.List.{filter_map}
+use Rattle.mol_outside.specs.Contents.{Contents}
+use Rattle.mol_top.specs.ClassFiles.{FilePair, address_in}
+use Rattle.mol_top.specs.Command.{Command}
+use Rattle.mol_top.specs.Given.{IsBase, log_there, read_log_refusal, input_refusal}
+use Rattle.mol_top.specs.Inputs.{base_files, base_of, base_program, log_at}
+use Rattle.mol_top.specs.Refusals.{reading_refusal, unbuilt_file, base_refusal, log_refusal}
+use Rattle.mol_top.specs.declared.base.Base.{Base}
+use Rattle.mol_top.specs.declared.status.Status.{Status}
+
+module _ (c : Command) (h : Contents) (files : List FilePair) (same : files ≡ base_files c.base h) where
+  -- nothing refuses a base that was read and looked into
+  pub base_accepted : reading_refusal c.base h ≡ None → unbuilt_file files ≡ None → base_refusal c.base h ≡ None
+  base_accepted read built = rw (read, ← same, built) refl
+
+  module _ (base : Base) (is : IsBase files base) where
+    pub table_is : base.table ≡ base_of c h
+    table_is = is.table ∙ ap (λ files. base_program (filter_map address_in files)) same
+
+    -- a log over the base that was read is that of the command
+    pub log_there-at : (path : List ℕ) → log_there base.classes base.digest path h ≡ log_at c h path
+    log_there-at path = rw (is.classes, is.digest, table_is, same) refl
+
+    pub refusal_there : (path : List ℕ) → read_log_refusal base.classes base.digest path h ≡ log_refusal c h path
+    refusal_there path = rw (log_there-at path) refl
+
+    pub first_refuses : (s : Status) → reading_refusal c.base h ≡ None → unbuilt_file files ≡ None
+        → read_log_refusal base.classes base.digest c.first h ≡ Some s → input_refusal c h ≡ Some s
+    first_refuses s read built refused = rw (base_accepted read built, ← refusal_there c.first, refused) refl
+
+    pub second_refuses : (s : Status) → reading_refusal c.base h ≡ None → unbuilt_file files ≡ None → read_log_refusal base.classes base.digest c.first h ≡ None
+        → read_log_refusal base.classes base.digest c.second h ≡ Some s → input_refusal c h ≡ Some s
+    second_refuses s read built first refused = rw (base_accepted read built, ← refusal_there c.first, first, ← refusal_there c.second, refused) refl

@@ -1,0 +1,36 @@
+use Rattle.std.proofs.Common.{arith, ◌≡◌, ◌∙◌, inl, inr}
+use Rattle.std.proofs.lemmas.Result.{err_from_is_err_and}
+use Rattle.mol_top.specs.Given.{read_log_refusal, input_refusal}
+use Rattle.mol_top.specs.Rows.{file_pairs}
+use Rattle.mol_top.specs.Steps.{IsNamed}
+use Rattle.mol_top.specs.Words.{words_command}
+use Rattle.mol_top.proofs.Giving.{first_refuses, second_refuses}
+use Rattle.mol_top.proofs.Stopping.{Stops-later}
+use Rattle.mol_top.proofs.base.read_inputs.Goals as goal
+
+pub returns-in_err-first-clause-stop : goal.returns-in_err-first-clause-stop
+returns-in_err-first-clause-stop g c =
+    let w = words_command c.args.words in
+    let p = err_from_is_err_and c.from_residual-in_err-first.result c.from_residual-in_err-first.ensures.1 in
+    let base = c.in_ok-base.base in
+    let read = c.in_ok-read.read.items in
+    let is = rw c.as_slice.ensures.value at c.in_ok-base.ensures.ok in
+    rw (p.1, p.2) (Stops-later (IsNamed w (g.F.Files.holds c.args.files.now)) (λ q. q ≡ w.first) _ _ _ _ _
+    (input_refusal w) (read_log_refusal base.classes base.digest w.first) _
+    (λ q e. inr (inr (inl e))) c.read_base.ensures.reads c.read_base.ensures.holds
+    (λ h e st. let b = c.in_ok-read.ensures.base h e in first_refuses w h (file_pairs read) b.1 base is.1 _ b.0 is.0 st)
+    c.in_err-first.ensures.stop)
+
+pub returns-in_err-second-clause-stop : goal.returns-in_err-second-clause-stop
+returns-in_err-second-clause-stop g c =
+    let w = words_command c.args.words in
+    let p = err_from_is_err_and c.from_residual-in_err-second.result c.from_residual-in_err-second.ensures.1 in
+    let base = c.in_ok-base.base in
+    let read = c.in_ok-read.read.items in
+    let is = rw c.as_slice.ensures.value at c.in_ok-base.ensures.ok in
+    rw (p.1, p.2) (Stops-later (IsNamed w (g.F.Files.holds c.args.files.now)) (λ q. q ≡ w.second) _ _ _ _ _
+    (input_refusal w) (read_log_refusal base.classes base.digest w.second) _
+    (λ q e. inr (inr (inr e))) (omega (arith, c.read_base.ensures.reads, c.log_in.ensures.reads)) (c.log_in.ensures.holds ∙ c.read_base.ensures.holds)
+    (λ h e st. let b = c.in_ok-read.ensures.base h e in
+    second_refuses w h (file_pairs read) b.1 base is.1 _ b.0 is.0 (c.in_ok-first.ensures.log h (c.read_base.ensures.holds ∙ e)).0 st)
+    c.in_err-second.ensures.stop)

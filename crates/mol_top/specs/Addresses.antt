@@ -1,0 +1,23 @@
+-- Addresses of classes, as the program holds them.
+use Rattle.std.specs.Prelude.{◌≡◌, ◌<◌, ⊤, Bool, List, length, map, Some, is_none, slice_get}
+use Rattle.std.specs.List.{find, position}
+use Rattle.mol_top.specs.ClassFiles.{Address as AddressPair, FilePair, address_in}
+use Rattle.mol_top.specs.declared.built.BaseFault.{BaseFault}
+use Rattle.mol_top.specs.declared.built.BaseFault.TheVariants.{NotBuilt, OutOfMemory}
+use Rattle.mol_top.specs.declared.class_file.Address.{Address}
+
+-- the package and the name
+abbrev pub address_pair : Address → AddressPair
+address_pair address = (address.«package», address.name)
+
+abbrev pub address_pairs : List Address → List AddressPair
+address_pairs addresses = map address_pair addresses
+
+-- no class is read from the file
+abbrev pub is_unbuilt : FilePair → Bool
+is_unbuilt file = is_none (address_in file)
+
+-- which file is the first that is not of the built form
+abbrev pub IsBaseFault : List FilePair → BaseFault → Type 0
+IsBaseFault files (NotBuilt at) = (at < length files) × (position is_unbuilt files ≡ Some at) × (find is_unbuilt files ≡ slice_get files at)
+IsBaseFault files OutOfMemory = ⊤

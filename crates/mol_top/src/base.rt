@@ -1,0 +1,113 @@
+//! The base of a command, and its logs.
+ghost use Rattle.std.specs.Prelude.{◌≡◌, ◌≤◌, IfOk, IfErr, None, Some, length};
+ghost use Rattle.std.specs.List.{filter_map};
+ghost use Rattle.std.specs.Option.{ForSome};
+ghost use Rattle.mol_top.specs.ClassFiles.{address_in, digest_of};
+ghost use Rattle.mol_top.specs.Given.{IsBase, HasInputs, input_refusal, read_log_refusal, log_there};
+ghost use Rattle.mol_top.specs.Inputs.{base_program};
+ghost use Rattle.mol_top.specs.LogRead.{log_of};
+ghost use Rattle.mol_top.specs.Refusals.{unbuilt_file};
+ghost use Rattle.mol_top.specs.Rows.{file_pairs};
+ghost use Rattle.mol_top.specs.Steps.{Stops, RefusesBy, IsNamed};
+ghost use Rattle.mol_top.specs.Words.{words_command};
+ghost use Rattle.std.specs.FinMap.{get};
+
+use crate::built::{BaseFault, base_table, read_addresses};
+use crate::class_files::{digest_of_files, files_of};
+use crate::classes::rows_of;
+use crate::inputs::{check_out, read_base, read_input};
+use crate::log_text::read_log;
+use crate::words::Words;
+use crate::{Log, Status};
+use mol_base::{File, Text};
+use mol_outside::Files;
+use mol_table::Table;
+use std::alloc::Global;
+
+/// A base: its program, its digest, and the number of its classes.
+#[derive(Drop)]
+pub struct Base {
+    pub table: Table,
+    pub digest: [u8; 32],
+    pub classes: u32,
+}
+
+/// What a merge works on.
+#[derive(Drop)]
+pub struct Inputs {
+    pub base: Table,
+    pub first: Log,
+    pub second: Log,
+}
+
+/// The base that the files are, of which there are at most 4,096.
+fn base_in(alloc: Global, read: &[File]) -> Result<Base, Status>
+    requires { length read.now ≤ 4096 }
+    ensures ok { IfOk result (λ base. (unbuilt_file (file_pairs read.now) ≡ None) × IsBase (file_pairs read.now) base) }
+    ensures err { IfErr result (RefusesBy (unbuilt_file (file_pairs read.now))) }
+{
+    let addresses = match read_addresses(alloc, read) {
+        Ok(addresses) => addresses,
+        Err(BaseFault::NotBuilt(k)) => return Err(Status::NotBuilt(read[k].path.copy(alloc)?)),
+        Err(BaseFault::OutOfMemory) => return Err(Status::OutOfMemory),
+    };
+    let table = base_table(alloc, addresses)?;
+    let digest = digest_in(alloc, &table)?;
+    Ok(Base {
+        table,
+        digest,
+        classes: read.len() as u32,
+    })
+}
+
+/// The digest of a program.
+fn digest_in(alloc: Global, table: &Table) -> Result<[u8; 32], Status>
+    ensures ok { IfOk result (λ digest. digest ≡ digest_of table.now) }
+    ensures err { IfErr result (λ status. status ≡ Status.OutOfMemory) }
+{
+    let rows = rows_of(alloc, table)?;
+    let files = files_of(alloc, rows.as_slice())?;
+    Ok(digest_of_files(alloc, files.as_slice())?)
+}
+
+/// The log of this path over a base.
+fn log_in<F: Files>(alloc: Global, path: &Text, base: &Base, files: &mut F) -> Result<Log, Status>
+    ensures holds { F.holds files.new ≡ F.holds files.old }
+    ensures reads { F.read_faults files.old ≤ F.read_faults files.new }
+    ensures writes { F.write_faults files.new ≡ F.write_faults files.old }
+    ensures log { IfOk result (λ log. ForSome (F.holds files.old) (λ held.
+        (read_log_refusal base.now.classes base.now.digest path.now held ≡ None) × (log_there base.now.classes base.now.digest path.now held ≡ Some log))) }
+    ensures stop { IfErr result (Stops (λ p. p ≡ path.now) (F.read_faults files.old) (F.read_faults files.new) (F.holds files.old)
+        (read_log_refusal base.now.classes base.now.digest path.now)) }
+{
+    let bytes = read_input(alloc, path, files)?;
+    match read_log(alloc, bytes.items(), &base.digest, base.classes)? {
+        Some(log) => Ok(log),
+        None => Err(Status::NotBuilt(path.copy(alloc)?)),
+    }
+}
+
+/// Reads and looks into all that a command names, in the order of a run.
+pub fn read_inputs<F: Files>(
+    alloc: Global,
+    words: Words<'_>,
+    files: &mut F,
+) -> Result<Inputs, Status>
+    ensures holds { F.holds files.new ≡ F.holds files.old }
+    ensures reads { F.read_faults files.old ≤ F.read_faults files.new }
+    ensures writes { F.write_faults files.new ≡ F.write_faults files.old }
+    ensures inputs { IfOk result (λ inputs. ForSome (F.holds files.old) (λ held. HasInputs (words_command words.entry) held inputs)) }
+    ensures stop { IfErr result (Stops (IsNamed (words_command words.entry) (F.holds files.old)) (F.read_faults files.old) (F.read_faults files.new) (F.holds files.old)
+        (input_refusal (words_command words.entry))) }
+{
+    let read = read_base(alloc, words.base, files)?;
+    let base = base_in(alloc, read.as_slice())?;
+    let first = log_in(alloc, words.first, &base, files)?;
+    let second = log_in(alloc, words.second, &base, files)?;
+    check_out(alloc, words.out, files)?;
+    Ok(Inputs {
+        base: base.table,
+        first,
+        second,
+    })
+}

@@ -1,0 +1,102 @@
+//! The answers of a run.
+use crate::Fault;
+use mol_base::{OutOfMemory, Tag, Text, Which};
+use std::alloc::{AllocError, AllocFailed};
+
+/// Why a log does not replay on its base.
+#[derive(Debug, Drop)]
+pub enum ReplayFault {
+    /// What the log leaves has a fault; this is the first.
+    NotClean(Fault),
+}
+
+/// Why a log is refused.
+#[derive(Debug, Drop)]
+pub enum LogCause {
+    /// Both logs have this tag.
+    SharedTag(Tag),
+    Replay(ReplayFault),
+}
+
+/// What a run answers. `code` is the exit status of the program.
+#[derive(Debug, Drop)]
+pub enum Status {
+    /// All was written.
+    Done,
+    /// The logs conflict in so many places. Nothing was written.
+    Conflicts(u64),
+    /// The words are no command.
+    Usage,
+    /// The log of this number, 1 or 2, is refused.
+    LogRefused(u8, LogCause),
+    /// A listing or a read failed, of the folder or file of this path.
+    ReadFailed(Text),
+    /// An input file is not there, or the folder of this path has no Java file.
+    Missing(Text),
+    /// The write of this file failed, or for the empty path the put of what is printed.
+    WriteFailed(Text),
+    OutOfMemory,
+    /// A file is there already where files are to be written.
+    OutInUse(Text),
+    /// A number passes its limit; this is the number.
+    Limit(Which, u64),
+    /// An input file is not of the form that is built so far.
+    NotBuilt(Text),
+}
+
+impl Status {
+    ghost use Rattle.std.specs.Prelude.{◌≡◌};
+    ghost use Rattle.mol_top.specs.Code.{code_of};
+
+    /// The exit status. It takes no memory.
+    pub fn code(&self) -> u8
+        ensures { result ≡ code_of self.now }
+    {
+        match self {
+            Status::Done => 0,
+            Status::Conflicts(_) => 1,
+            Status::Usage => 2,
+            Status::LogRefused(..) => 4,
+            Status::ReadFailed(_) => 5,
+            Status::Missing(_) => 6,
+            Status::WriteFailed(_) => 7,
+            Status::OutOfMemory => 8,
+            Status::OutInUse(_) => 9,
+            Status::Limit(..) => 10,
+            Status::NotBuilt(_) => 14,
+        }
+    }
+}
+
+impl From<OutOfMemory> for Status {
+    ghost use Rattle.std.specs.Prelude.{◌≡◌};
+    ghost use Rattle.mol_top.specs.declared.status.Status.TheVariants.{OutOfMemory as Wants};
+
+    ghost from_gives = { λ _ status. status ≡ Wants };
+
+    fn from(_: OutOfMemory) -> Status {
+        Status::OutOfMemory
+    }
+}
+
+impl From<AllocError> for Status {
+    ghost use Rattle.std.specs.Prelude.{◌≡◌};
+    ghost use Rattle.mol_top.specs.declared.status.Status.TheVariants.{OutOfMemory as Wants};
+
+    ghost from_gives = { λ _ status. status ≡ Wants };
+
+    fn from(_: AllocError) -> Status {
+        Status::OutOfMemory
+    }
+}
+
+impl<T: Drop> From<AllocFailed<T>> for Status {
+    ghost use Rattle.std.specs.Prelude.{◌≡◌};
+    ghost use Rattle.mol_top.specs.declared.status.Status.TheVariants.{OutOfMemory as Wants};
+
+    ghost from_gives = { λ _ status. status ≡ Wants };
+
+    fn from(_: AllocFailed<T>) -> Status {
+        Status::OutOfMemory
+    }
+}
