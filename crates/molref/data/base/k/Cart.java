@@ -1,0 +1,4 @@
+package k;
+
+class Cart {
+}

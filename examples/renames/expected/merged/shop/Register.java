@@ -1,0 +1,4 @@
+package shop;
+
+class Register {
+}
