@@ -1,0 +1,13 @@
+//! The lexer: the bytes of a Java source to its tokens.
+#![tactic(auto)]
+
+mod fault;
+mod scan;
+mod token;
+
+pub use fault::LexFault;
+pub use scan::lex;
+pub use token::Token;
+
+#[cfg(test)]
+mod tests;

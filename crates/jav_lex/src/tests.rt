@@ -1,0 +1,260 @@
+//! Tables of sources, with what the language's rules say of each.
+use crate::{LexFault, lex};
+use mol_base::{TokenKind, line_and_column, text_kind};
+use std::alloc::Global;
+use std::test::Fail;
+
+/// The letter of each token's kind and its text, with a blank after each; or `None` where the source has
+/// a fault.
+fn shown(alloc: Global, source: &[u8]) -> Result<Option<String>, Fail> {
+    if 4096 < source.len() {
+        return Ok(None);
+    }
+    let Ok(tokens) = lex(alloc, source) else {
+        return Ok(None);
+    };
+    let mut out = String::new(alloc);
+    for token in tokens.items() {
+        out.push(match token.kind {
+            TokenKind::Word => 'W',
+            TokenKind::Keyword => 'K',
+            TokenKind::Literal => 'L',
+            TokenKind::Symbol => 'S',
+            TokenKind::Comment => 'C',
+        })?;
+        out.push_str(token.text.as_str())?;
+        out.push(' ')?;
+    }
+    Ok(Some(out))
+}
+
+/// The source's fault, if it has one.
+fn fault(alloc: Global, source: &[u8]) -> Option<LexFault> {
+    if 4096 < source.len() {
+        return None;
+    }
+    match lex(alloc, source) {
+        Ok(_) => None,
+        Err(fault) => Some(fault),
+    }
+}
+
+const TOKENS: [(&str, &str); 22] = [
+    ("", ""),
+    (" \t\u{c}\r\n", ""),
+    (
+        "package shop; class Cart<T> { }",
+        "Kpackage Wshop S; Kclass WCart S< WT S> S{ S} ",
+    ),
+    ("a>>b >>>=c", "Wa S>> Wb S>>>= Wc "),
+    ("a>=>b", "Wa S>= S> Wb "),
+    ("f(int... a)", "Wf S( Kint S... Wa S) "),
+    ("true null nulls", "Ltrue Lnull Wnulls "),
+    (
+        "1__0 0_7 00 0 0L 0xFf_0l 0B1_0",
+        "L1__0 L0_7 L00 L0 L0L L0xFf_0l L0B1_0 ",
+    ),
+    ("1$a 1 .f()", "L1 W$a L1 S. Wf S( S) "),
+    ("1+-2", "L1 S+ S- L2 "),
+    ("/* * **/ */", "C/* * **/ S* S/ "),
+    ("/*/ */a", "C/*/ */ Wa "),
+    ("a // b\r\nc", "Wa C// b Wc "),
+    ("a//\rc", "Wa C// Wc "),
+    ("// end", "C// end "),
+    ("\"\" \"a\\\"b\" \"\\\\\"", "L\"\" L\"a\\\"b\" L\"\\\\\" "),
+    ("\"\\7\\77\\377\\8\".length()", ""),
+    (
+        "'\"' '\\'' '\\0' '\\77' '\\377' '€'",
+        "L'\"' L'\\'' L'\\0' L'\\77' L'\\377' L'€' ",
+    ),
+    ("\"\\\\u0041\"", "L\"\\\\u0041\" "),
+    ("été_2 __ $", "Wété_2 W__ W$ "),
+    ("x::y->z", "Wx S:: Wy S-> Wz "),
+    ("i++<=j--", "Wi S++ S<= Wj S-- "),
+];
+
+#[test]
+fn sources_have_these_tokens(rt: HostRuntime) -> Result<(), Fail> {
+    for (source, want) in TOKENS {
+        match shown(rt.alloc(), source.as_bytes())? {
+            Some(tokens) => assert_eq!(rt; tokens.as_str(), want, "of {source}"),
+            None => assert_eq!(rt; "", want, "of {source}"),
+        }
+    }
+    Ok(())
+}
+
+/// The tokens' texts, with the bytes between them; or `None` where the source has a fault.
+fn put_together(alloc: Global, source: &[u8]) -> Result<Option<Vec<u8>>, Fail> {
+    if 4096 < source.len() {
+        return Ok(None);
+    }
+    let Ok(tokens) = lex(alloc, source) else {
+        return Ok(None);
+    };
+    let mut out = Vec::new(alloc);
+    let mut at = 0;
+    for token in tokens.items() {
+        if let Some(between) = source.get(at..token.start as usize) {
+            out.extend_from_slice(between)?;
+        }
+        out.extend_from_slice(token.text.bytes())?;
+        at = token.end as usize;
+    }
+    if let Some(after) = source.get(at..) {
+        out.extend_from_slice(after)?;
+    }
+    Ok(Some(out))
+}
+
+#[test]
+fn texts_and_what_is_between_them_are_the_source(rt: HostRuntime) -> Result<(), Fail> {
+    for (source, _) in TOKENS {
+        if let Some(bytes) = put_together(rt.alloc(), source.as_bytes())? {
+            assert_eq!(rt; bytes.as_slice(), source.as_bytes(), "of {source}");
+        }
+    }
+    Ok(())
+}
+
+const CHARACTER_FAULTS: [(&[u8], LexFault); 20] = [
+    (b"\xff", LexFault::NotUtf8(0)),
+    (b"a\xc3", LexFault::NotUtf8(1)),
+    (b"a \xc0\x80", LexFault::NotUtf8(2)),
+    (b"\xed\xa0\x80", LexFault::NotUtf8(0)),
+    (b"\xef\xbb\xbfclass", LexFault::BadChar(0)),
+    (b"// \xff", LexFault::NotUtf8(3)),
+    (b"/* \xff */", LexFault::NotUtf8(3)),
+    (b"/* \xff", LexFault::OpenComment(0)),
+    (b"\"\xff\"", LexFault::NotUtf8(1)),
+    (b"'\xff'", LexFault::NotUtf8(1)),
+    (b"\"\xff", LexFault::OpenString(0)),
+    (b"\\u0041", LexFault::UnicodeEscape(0)),
+    (b"a \\u", LexFault::UnicodeEscape(2)),
+    (b"/* \\u0041 */", LexFault::UnicodeEscape(3)),
+    (b"/* \\u0041", LexFault::OpenComment(0)),
+    (b"// \\\\u \\\\\\u", LexFault::UnicodeEscape(9)),
+    (b"\"\\u0041\"", LexFault::UnicodeEscape(1)),
+    (b"'\\u0041'", LexFault::UnicodeEscape(1)),
+    (b"\"\\u0041", LexFault::OpenString(0)),
+    (b"\"\\\\\\u0041\"", LexFault::UnicodeEscape(3)),
+];
+
+const TOKEN_FAULTS: [(&[u8], LexFault); 40] = [
+    (b"#", LexFault::BadChar(0)),
+    (b"_", LexFault::BadChar(0)),
+    (b"a _ b", LexFault::BadChar(2)),
+    (b"a \\", LexFault::BadChar(2)),
+    (b"a\0", LexFault::BadChar(1)),
+    (b"\"a", LexFault::OpenString(0)),
+    (b"\"a\rb\"", LexFault::OpenString(0)),
+    (b"a \"", LexFault::OpenString(2)),
+    (b"\"\\q\n\"", LexFault::OpenString(0)),
+    (b"\"\\\n\"", LexFault::OpenString(0)),
+    (b"\"\\\"", LexFault::OpenString(0)),
+    (b"'ab'", LexFault::OpenString(0)),
+    (b"''", LexFault::OpenString(0)),
+    (b"'\xf0\x9f\x98\x80'", LexFault::OpenString(0)),
+    (b"'\\400'", LexFault::OpenString(0)),
+    (b"/* a", LexFault::OpenComment(0)),
+    (b"/*/", LexFault::OpenComment(0)),
+    (b"a /*", LexFault::OpenComment(2)),
+    (b"\"\\q\"", LexFault::BadEscape(1)),
+    (b"'\\qq'", LexFault::BadEscape(1)),
+    (b"\"\\7\\8\"", LexFault::BadEscape(3)),
+    (b"1.5", LexFault::FloatLiteral(0)),
+    (b"1e3", LexFault::FloatLiteral(0)),
+    (b"a.b .5", LexFault::FloatLiteral(4)),
+    (b"1f", LexFault::FloatLiteral(0)),
+    (b"0x1p3", LexFault::FloatLiteral(0)),
+    (b"1.", LexFault::FloatLiteral(0)),
+    (b"1_", LexFault::BadNumber(0)),
+    (b"0_", LexFault::BadNumber(0)),
+    (b"0x", LexFault::BadNumber(0)),
+    (b"0x_1", LexFault::BadNumber(0)),
+    (b"0b2", LexFault::BadNumber(0)),
+    (b"a 08", LexFault::BadNumber(2)),
+    (b"1_L", LexFault::BadNumber(0)),
+    (b"\"\"\"a\"\"\"", LexFault::TextBlock(0)),
+    (b"# \xff", LexFault::BadChar(0)),
+    (b"\xff #", LexFault::NotUtf8(0)),
+    (b"1_ #", LexFault::BadNumber(0)),
+    (b"# 1_", LexFault::BadChar(0)),
+    (b"\"\\q\\u0041\"", LexFault::BadEscape(1)),
+];
+
+#[test]
+fn faults_stand_where_the_rules_say(rt: HostRuntime) {
+    for (source, want) in CHARACTER_FAULTS {
+        assert_eq!(rt; fault(rt.alloc(), source), Some(want));
+    }
+    for (source, want) in TOKEN_FAULTS {
+        assert_eq!(rt; fault(rt.alloc(), source), Some(want));
+    }
+}
+
+#[test]
+fn a_name_has_255_bytes_at_most(rt: HostRuntime) -> Result<(), Fail> {
+    let mut name = String::new(rt.alloc());
+    for _ in 0..127 {
+        name.push('é')?;
+    }
+    name.push('a')?;
+    assert_eq!(rt; fault(rt.alloc(), name.as_bytes()), None);
+    assert_eq!(rt; text_kind(name.as_bytes()), Some(TokenKind::Word));
+    name.push('a')?;
+    assert_eq!(rt;
+        fault(rt.alloc(), name.as_bytes()),
+        Some(LexFault::NameTooLong(0))
+    );
+    assert_eq!(rt; text_kind(name.as_bytes()), None);
+    Ok(())
+}
+
+const KINDS: [(&str, Option<TokenKind>); 18] = [
+    ("", None),
+    (" ", None),
+    ("a", Some(TokenKind::Word)),
+    ("a b", None),
+    ("a ", None),
+    ("class", Some(TokenKind::Keyword)),
+    ("false", Some(TokenKind::Literal)),
+    ("0x1F", Some(TokenKind::Literal)),
+    ("1.", None),
+    ("'a'", Some(TokenKind::Literal)),
+    (">>", Some(TokenKind::Symbol)),
+    ("> >", None),
+    ("=!", None),
+    ("_", None),
+    ("/* a */", Some(TokenKind::Comment)),
+    ("/* \\u0041 */", None),
+    ("// a", Some(TokenKind::Comment)),
+    ("// a\n", None),
+];
+
+#[test]
+fn bytes_are_one_token_or_none(rt: HostRuntime) {
+    for (source, want) in KINDS {
+        assert_eq!(rt; text_kind(source.as_bytes()), want, "of {source}");
+    }
+}
+
+const PLACES: [(&str, usize, (u32, u32)); 8] = [
+    ("", 0, (1, 1)),
+    ("ab", 1, (1, 2)),
+    ("a\nb", 1, (1, 2)),
+    ("a\nb", 2, (2, 1)),
+    ("a\r\nb", 2, (1, 3)),
+    ("a\r\nb", 3, (2, 1)),
+    ("a\rb", 3, (2, 2)),
+    ("a\n\ré€b", 8, (3, 3)),
+];
+
+#[test]
+fn lines_and_columns_count_from_one(rt: HostRuntime) {
+    for (source, at, want) in PLACES {
+        if at <= source.len() && source.len() < 4096 {
+            assert_eq!(rt; line_and_column(source.as_bytes(), at), want, "of {source}");
+        }
+    }
+}
