@@ -1,0 +1,14 @@
+pub mod ExampleExpressions
+pub mod ExampleLayouts
+pub mod ExampleMembers
+pub mod ExampleStatements
+pub mod Heights
+pub mod HeightsStatements
+pub mod Laid
+pub mod Parts
+pub mod PartsStmt
+pub mod Settled
+pub mod SettledStatements
+pub mod SettledUnits
+pub mod Spelled
+pub mod Traps

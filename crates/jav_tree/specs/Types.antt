@@ -1,0 +1,43 @@
+-- Names with dots, and types (JLS 4, 6.5, 10.1).
+use Rattle.std.specs.Prelude.{◌≡◌, ℕ, zero, suc, ◌≤◌, List, [], ◌∷◌, ◌++◌, codes}
+use Rattle.mol_base.specs.Token.{Token}
+use Rattle.mol_base.specs.declared.token_kind.TokenKind.TheVariants as kind
+use Rattle.jav_tree.specs.declared.types.TypeName.{TypeName}
+use Rattle.jav_tree.specs.declared.types.TypeName.TheVariants as ty
+use Rattle.jav_tree.specs.Tokens.{IsSymbol, IsName}
+
+-- the keyword of a primitive type; `float` and `double` are none here
+pub data IsPrimitive : Token → Type 0 where
+  boolean : {t : Token} → t.kind ≡ kind.Keyword → t.text ≡ codes "boolean" → IsPrimitive t
+  byte : {t : Token} → t.kind ≡ kind.Keyword → t.text ≡ codes "byte" → IsPrimitive t
+  short : {t : Token} → t.kind ≡ kind.Keyword → t.text ≡ codes "short" → IsPrimitive t
+  char : {t : Token} → t.kind ≡ kind.Keyword → t.text ≡ codes "char" → IsPrimitive t
+  int : {t : Token} → t.kind ≡ kind.Keyword → t.text ≡ codes "int" → IsPrimitive t
+  long : {t : Token} → t.kind ≡ kind.Keyword → t.text ≡ codes "long" → IsPrimitive t
+
+-- Qualified q ts: names joined by dots; q is the text without spaces.
+pub data Qualified : List ℕ → List Token → Type 0 where
+  name : {t : Token} → IsName t → Qualified t.text (t ∷ [])
+  dotted : {t dot : Token} {q : List ℕ} {ts : List Token} → IsName t → IsSymbol "." dot → Qualified q ts
+      → Qualified (t.text ++ codes "." ++ q) (t ∷ dot ∷ ts)
+
+-- BaseType ty ts: a type without brackets.
+pub data BaseType : TypeName → List Token → Type 0 where
+  primitive : {t : Token} → IsPrimitive t → BaseType (ty.Prim t.text) (t ∷ [])
+  named : {q : List ℕ} {ts : List Token} → Qualified q ts → BaseType (ty.Named q) ts
+
+-- Brackets n ts: n pairs of empty brackets.
+pub data Brackets : ℕ → List Token → Type 0 where
+  none : Brackets zero []
+  pair : {left right : Token} {n : ℕ} {ts : List Token} → IsSymbol "[" left → IsSymbol "]" right → Brackets n ts
+      → Brackets (suc n) (left ∷ right ∷ ts)
+
+-- the array type with n pairs of brackets after this type
+abbrev pub array_of : ℕ → TypeName → TypeName
+array_of zero base = base
+array_of (suc n) base = ty.ArrayOf (array_of n base)
+
+-- WholeType most ty ts: a type with at most `most` pairs of brackets.
+pub data WholeType (most : ℕ) : TypeName → List Token → Type 0 where
+  whole : {base : TypeName} {n : ℕ} {ts us : List Token} → BaseType base ts → Brackets n us → n ≤ most
+      → WholeType most (array_of n base) (ts ++ us)

@@ -1,0 +1,18 @@
+//! Named syntax trees of the Java that this project reads and writes.
+#![tactic(auto)]
+
+mod bare;
+mod copy;
+mod expr;
+mod height;
+mod same;
+mod stmt;
+#[cfg(test)]
+mod tests;
+mod types;
+mod unit;
+
+pub use expr::{Expr, ExprNode};
+pub use stmt::{Block, Declarator, Else, ForStart, Let, Stmt, StmtNode};
+pub use types::TypeName;
+pub use unit::{ClassDecl, Ctor, Field, Member, Method, Param, Unit};
