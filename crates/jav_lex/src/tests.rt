@@ -39,7 +39,7 @@ fn fault(alloc: Global, source: &[u8]) -> Option<LexFault> {
     }
 }
 
-const TOKENS: [(&str, &str); 22] = [
+const TOKENS: [(&str, &str); 25] = [
     ("", ""),
     (" \t\u{c}\r\n", ""),
     (
@@ -62,7 +62,19 @@ const TOKENS: [(&str, &str); 22] = [
     ("a//\rc", "Wa C// Wc "),
     ("// end", "C// end "),
     ("\"\" \"a\\\"b\" \"\\\\\"", "L\"\" L\"a\\\"b\" L\"\\\\\" "),
-    ("\"\\7\\77\\377\\8\".length()", ""),
+    (
+        "\"\\7\\77\\377\".length()",
+        "L\"\\7\\77\\377\" S. Wlength S( S) ",
+    ),
+    (
+        "/* # _ \" 'ab' \\q 1.5 1_ \"\"\" */",
+        "C/* # _ \" 'ab' \\q 1.5 1_ \"\"\" */ ",
+    ),
+    (
+        "// # _ \" 'ab' /* \\q 1.5 1_ \"\"\"",
+        "C// # _ \" 'ab' /* \\q 1.5 1_ \"\"\" ",
+    ),
+    ("\"# _ /* // '' 1.5 1_\"", "L\"# _ /* // '' 1.5 1_\" "),
     (
         "'\"' '\\'' '\\0' '\\77' '\\377' '€'",
         "L'\"' L'\\'' L'\\0' L'\\77' L'\\377' L'€' ",
@@ -78,7 +90,7 @@ fn sources_have_these_tokens(rt: HostRuntime) -> Result<(), Fail> {
     for (source, want) in TOKENS {
         match shown(rt.alloc(), source.as_bytes())? {
             Some(tokens) => assert_eq!(rt; tokens.as_str(), want, "of {source}"),
-            None => assert_eq!(rt; "", want, "of {source}"),
+            None => assert_eq!(rt; "a fault", want, "of {source}"),
         }
     }
     Ok(())
@@ -183,12 +195,29 @@ const TOKEN_FAULTS: [(&[u8], LexFault); 40] = [
     (b"\"\\q\\u0041\"", LexFault::BadEscape(1)),
 ];
 
+const LATER_FAULTS: [(&[u8], LexFault); 11] = [
+    (b"a #", LexFault::BadChar(2)),
+    (b"a _", LexFault::BadChar(2)),
+    (b"a 1.", LexFault::FloatLiteral(2)),
+    (b"a \"\"\"", LexFault::TextBlock(2)),
+    (b"a \"\\q\"", LexFault::BadEscape(3)),
+    (b"a '", LexFault::OpenString(2)),
+    (b"\"\\7\\77\\377\\8\"", LexFault::BadEscape(10)),
+    (b"1.5 \"a", LexFault::FloatLiteral(0)),
+    (b"\"a\n1.5", LexFault::OpenString(0)),
+    (b"1_ /* a", LexFault::BadNumber(0)),
+    (b"/* a 1_", LexFault::OpenComment(0)),
+];
+
 #[test]
 fn faults_stand_where_the_rules_say(rt: HostRuntime) {
     for (source, want) in CHARACTER_FAULTS {
         assert_eq!(rt; fault(rt.alloc(), source), Some(want));
     }
     for (source, want) in TOKEN_FAULTS {
+        assert_eq!(rt; fault(rt.alloc(), source), Some(want));
+    }
+    for (source, want) in LATER_FAULTS {
         assert_eq!(rt; fault(rt.alloc(), source), Some(want));
     }
 }
@@ -208,6 +237,20 @@ fn a_name_has_255_bytes_at_most(rt: HostRuntime) -> Result<(), Fail> {
         Some(LexFault::NameTooLong(0))
     );
     assert_eq!(rt; text_kind(name.as_bytes()), None);
+    Ok(())
+}
+
+#[test]
+fn a_long_name_in_a_comment_or_a_string_is_none(rt: HostRuntime) -> Result<(), Fail> {
+    for quote in ["//", "\""] {
+        let mut source = String::new(rt.alloc());
+        source.push_str(quote)?;
+        for _ in 0..128 {
+            source.push('é')?;
+        }
+        source.push_str("\"")?;
+        assert_eq!(rt; fault(rt.alloc(), source.as_bytes()), None);
+    }
     Ok(())
 }
 
