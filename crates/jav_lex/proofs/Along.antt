@@ -22,7 +22,7 @@ use Rattle.jav_lex.proofs.Faults.{characters_first, flaw_first, flaw_alone, flaw
 use Rattle.jav_lex.proofs.Tiling.{IsBlank-nil, Tiles-space, Tiles-token}
 
 -- where a backslash begins a Unicode escape there is a backslash
-escape-at : (odd : Bool) (r : List ℕ) → before_unicode_escape odd r < length r → get_or r (before_unicode_escape odd r) 0 ≡ 92
+pub escape-at : (odd : Bool) (r : List ℕ) → before_unicode_escape odd r < length r → get_or r (before_unicode_escape odd r) 0 ≡ 92
 escape-at odd [] h = absurd (omega arith)
 escape-at odd (b ∷ bs) h =
     cond_both (pairs_next odd b && nat_eq (first bs) 117) 0 (1 + before_unicode_escape (pairs_next odd b) bs) (λ x. x < length (b ∷ bs) → get_or (b ∷ bs) x 0 ≡ 92)

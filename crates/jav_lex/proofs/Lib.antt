@@ -1,3 +1,4 @@
+pub mod Alone
 pub mod Along
 pub mod Faults
 pub mod Tiling

@@ -83,8 +83,9 @@ pub fn lex(alloc: Global, bytes: &[u8]) -> Result<List<Token>, LexFault>
     // the tokens are those of the source, and no others are
     ensures ok { IfOk result (λ tokens. IsSource bytes.now (all_seen tokens)) }
     ensures only { IfOk result (λ tokens. (others : Items token.Token) → IsSource bytes.now others → others ≡ all_seen tokens) }
-    // the fault is the first, and no tokens are those of the source
+    // the fault is the first, no other is, and no tokens are those of the source
     ensures err { IfErr result (λ fault. fault ≢ LexFault.OutOfMemory → IsFirstFault bytes.now fault) }
+    ensures one { IfErr result (λ fault. fault ≢ LexFault.OutOfMemory → (other : LexFault) → IsFirstFault bytes.now other → other ≡ fault) }
     ensures none { IfErr result (λ fault. fault ≢ LexFault.OutOfMemory → (others : Items token.Token) → IsSource bytes.now others → ⊥) }
 {
     let escape = before_unicode_escape(bytes);

@@ -1,6 +1,6 @@
 //! Tables of sources, with what the language's rules say of each.
-use crate::{LexFault, lex};
-use mol_base::{TokenKind, line_and_column, text_kind};
+use crate::{LexFault, Token, lex};
+use mol_base::{Text, TokenKind, text_kind};
 use std::alloc::Global;
 use std::test::Fail;
 
@@ -254,50 +254,18 @@ fn a_long_name_in_a_comment_or_a_string_is_none(rt: HostRuntime) -> Result<(), F
     Ok(())
 }
 
-const KINDS: [(&str, Option<TokenKind>); 18] = [
-    ("", None),
-    (" ", None),
-    ("a", Some(TokenKind::Word)),
-    ("a b", None),
-    ("a ", None),
-    ("class", Some(TokenKind::Keyword)),
-    ("false", Some(TokenKind::Literal)),
-    ("0x1F", Some(TokenKind::Literal)),
-    ("1.", None),
-    ("'a'", Some(TokenKind::Literal)),
-    (">>", Some(TokenKind::Symbol)),
-    ("> >", None),
-    ("=!", None),
-    ("_", None),
-    ("/* a */", Some(TokenKind::Comment)),
-    ("/* \\u0041 */", None),
-    ("// a", Some(TokenKind::Comment)),
-    ("// a\n", None),
-];
-
 #[test]
-fn bytes_are_one_token_or_none(rt: HostRuntime) {
-    for (source, want) in KINDS {
-        assert_eq!(rt; text_kind(source.as_bytes()), want, "of {source}");
-    }
-}
-
-const PLACES: [(&str, usize, (u32, u32)); 8] = [
-    ("", 0, (1, 1)),
-    ("ab", 1, (1, 2)),
-    ("a\nb", 1, (1, 2)),
-    ("a\nb", 2, (2, 1)),
-    ("a\r\nb", 2, (1, 3)),
-    ("a\r\nb", 3, (2, 1)),
-    ("a\rb", 3, (2, 2)),
-    ("a\n\ré€b", 8, (3, 3)),
-];
-
-#[test]
-fn lines_and_columns_count_from_one(rt: HostRuntime) {
-    for (source, at, want) in PLACES {
-        if at <= source.len() && source.len() < 4096 {
-            assert_eq!(rt; line_and_column(source.as_bytes(), at), want, "of {source}");
-        }
-    }
+fn a_token_equals_its_copy(rt: HostRuntime) -> Result<(), Fail> {
+    let token = Token {
+        kind: TokenKind::Word,
+        text: Text::from_str(rt.alloc(), "count")?,
+        start: 3,
+        end: 8,
+    };
+    let copy = token.copy(rt.alloc())?;
+    assert_eq!(rt; copy.kind, TokenKind::Word);
+    assert_eq!(rt; copy.text.as_str(), "count");
+    assert_eq!(rt; copy.start, 3);
+    assert_eq!(rt; copy.end, 8);
+    Ok(())
 }

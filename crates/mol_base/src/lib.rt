@@ -13,6 +13,8 @@ mod number;
 mod split;
 mod tag;
 mod tag_fault;
+#[cfg(test)]
+mod tests;
 mod text;
 mod token_kind;
 

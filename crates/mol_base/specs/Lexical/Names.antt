@@ -1,4 +1,4 @@
--- Identifiers, keywords, and the literals that are spelled as words (JLS 3.8, 3.9, 3.10.3, 3.10.8).
+-- Identifiers, keywords, and the literals that are spelled as words (JLS 3.8, 3.9, 3.10.3, 3.10.7).
 use Rattle.std.specs.Prelude.{ℕ, zero, suc, ◌+◌, ◌-◌, Bool, false, ◌||◌, ◌&&◌, ◌==◌, nat_lt, List, [], ◌∷◌, take, if◌then◌else◌, codes}
 use Rattle.std.specs.Option.{option_map_or}
 use Rattle.std.specs.List.{list_any}

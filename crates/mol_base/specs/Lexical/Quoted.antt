@@ -1,4 +1,4 @@
--- String and character literals (JLS 3.10.4 to 3.10.7). Quotes, backslashes and line ends are single
+-- String and character literals (JLS 3.10.4 to 3.10.6). Quotes, backslashes and line ends are single
 -- bytes of no other character, so these are said over bytes.
 use Rattle.std.specs.Prelude.{ℕ, ◌+◌, Bool, false, ◌||◌, ◌&&◌, ◌==◌, not, nat_lt, nat_le, List, [], ◌∷◌, take, drop, length, slice_index, is_some, if◌then◌else◌, codes}
 use Rattle.std.specs.Int.{is_in_range}

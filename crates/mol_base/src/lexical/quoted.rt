@@ -1,4 +1,4 @@
-//! String and character literals (JLS 3.10.4 to 3.10.7).
+//! String and character literals (JLS 3.10.4 to 3.10.6).
 ghost use Rattle.std.specs.Prelude.{◌≡◌, ◌+◌, ◌<◌, ◌≤◌, length, false};
 ghost use Rattle.mol_base.specs.Lexical.Quoted as spec;
 

@@ -5,6 +5,7 @@ use Rattle.mol_base.specs.Token.{Token}
 use Rattle.jav_lex.specs.Source.{all_seen, IsTaken, Tiles}
 use Rattle.jav_lex.specs.Fault.{IsFirstFault}
 use Rattle.jav_lex.specs.declared.fault.LexFault.{LexFault}
+use Rattle.jav_lex.proofs.Alone.{one_first}
 use Rattle.jav_lex.proofs.Along.{Along, Along-start, Along-space, Along-token, taken-token, all_seen-more, clean-text, exit_taken, exit_late, exit_flaw, exit_end}
 use Rattle.jav_lex.proofs.Faults.{no_fault}
 use Rattle.jav_lex.proofs.Tiling.{one_tiling}
@@ -27,6 +28,9 @@ returns-then-clean-at-clause-err c =
     λ _. subst P (sym c.of_characters.ensures)
     (exit_taken c.args.bytes.now _ _ c.min-clean.result c.loop-at.at (all_seen c.loop-at.tokens) c.before_unicode_escape-escape.ensures.same c.text_len-text.ensures.len c.min-clean.ensures c.text_len-text.ensures.within c.loop-at.invariant
     c.in-Taken.kind c.in-Taken.len c.loop-at-test.true (sym c.in-Taken.ensures.same) c.in-Taken.ensures.within c.if-clean-at.true)
+
+pub returns-then-clean-at-clause-one : goal.returns-then-clean-at-clause-one
+returns-then-clean-at-clause-one c = λ memory other is. one_first c.args.bytes.now other _ is (returns-then-clean-at-clause-err c memory)
 
 pub returns-then-clean-at-clause-none : goal.returns-then-clean-at-clause-none
 returns-then-clean-at-clause-none c = λ memory others source. no_fault c.args.bytes.now others source _ (returns-then-clean-at-clause-err c memory).there
@@ -63,6 +67,9 @@ returns-then-clean-at-2-clause-err c =
     (exit_late c.args.bytes.now _ _ c.min-clean.result c.loop-at.at (all_seen c.loop-at.tokens) c.before_unicode_escape-escape.ensures.same c.text_len-text.ensures.len c.min-clean.ensures c.text_len-text.ensures.within c.loop-at.invariant
     c.in-Wrong.flaw c.in-Wrong.offset c.loop-at-test.true (sym c.in-Wrong.ensures.same) c.in-Wrong.ensures.within c.if-clean-at-2.true)
 
+pub returns-then-clean-at-2-clause-one : goal.returns-then-clean-at-2-clause-one
+returns-then-clean-at-2-clause-one c = λ memory other is. one_first c.args.bytes.now other _ is (returns-then-clean-at-2-clause-err c memory)
+
 pub returns-then-clean-at-2-clause-none : goal.returns-then-clean-at-2-clause-none
 returns-then-clean-at-2-clause-none c = λ memory others source. no_fault c.args.bytes.now others source _ (returns-then-clean-at-2-clause-err c memory).there
 
@@ -72,6 +79,9 @@ returns-in-Wrong-clause-err c =
     λ _. subst P (sym c.of_flaw.ensures)
     (exit_flaw c.args.bytes.now _ _ c.min-clean.result c.loop-at.at (all_seen c.loop-at.tokens) c.before_unicode_escape-escape.ensures.same c.text_len-text.ensures.len c.min-clean.ensures c.text_len-text.ensures.within c.loop-at.invariant
     c.in-Wrong.flaw c.in-Wrong.offset c.loop-at-test.true (sym c.in-Wrong.ensures.same) c.if-clean-at-2.false)
+
+pub returns-in-Wrong-clause-one : goal.returns-in-Wrong-clause-one
+returns-in-Wrong-clause-one c = λ memory other is. one_first c.args.bytes.now other _ is (returns-in-Wrong-clause-err c memory)
 
 pub returns-in-Wrong-clause-none : goal.returns-in-Wrong-clause-none
 returns-in-Wrong-clause-none c = λ memory others source. no_fault c.args.bytes.now others source _ (returns-in-Wrong-clause-err c memory).there
@@ -88,6 +98,9 @@ returns-else-clean-bytes-clause-err c =
     let P : LexFault → Type 0 = IsFirstFault c.args.bytes.now in
     λ _. subst P (sym c.of_characters-else-clean-bytes.ensures)
     (exit_end c.args.bytes.now _ _ c.min-clean.result c.loop-at.at (all_seen c.loop-at.tokens) c.before_unicode_escape-escape.ensures.same c.text_len-text.ensures.len c.min-clean.ensures c.text_len-text.ensures.within c.loop-at.invariant c.loop-at-test.false c.if-clean-bytes.false)
+
+pub returns-else-clean-bytes-clause-one : goal.returns-else-clean-bytes-clause-one
+returns-else-clean-bytes-clause-one c = λ memory other is. one_first c.args.bytes.now other _ is (returns-else-clean-bytes-clause-err c memory)
 
 pub returns-else-clean-bytes-clause-none : goal.returns-else-clean-bytes-clause-none
 returns-else-clean-bytes-clause-none c = λ memory others source. no_fault c.args.bytes.now others source _ (returns-else-clean-bytes-clause-err c memory).there
