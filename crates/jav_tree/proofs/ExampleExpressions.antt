@@ -2,6 +2,8 @@
 use Rattle.std.proofs.Common.{[], ◌∷◌, codes, Some, None, refl, lit≤, inl}
 use Rattle.jav_tree.specs.declared.types.TypeName.TheVariants as ty
 use Rattle.jav_tree.specs.declared.expr.ExprNode.TheVariants as node
+use Rattle.mol_base.specs.Token.{Token}
+use Rattle.jav_tree.specs.Types.{IsPrimitive, WholeType}
 use Rattle.jav_tree.specs.Types as type
 use Rattle.jav_tree.specs.Expressions.{Expression, placed}
 use Rattle.jav_tree.specs.Expressions as is
@@ -107,3 +109,25 @@ empty_braces = is.braces (is.no_items (symbol "{" 0) (symbol "}" 1))
 
 last_comma : is.Init 255 2 (placed 0 (node.Braces (num 1 "1" ∷ []))) (sym "{" 0 ∷ lit "1" 1 ∷ sym "," 2 ∷ sym "}" 3 ∷ [])
 last_comma = is.braces (is.items_comma (symbol "{" 0) (is.last_item (is.value (is_num "1" 1))) (symbol "," 2) (symbol "}" 3))
+
+-- the primitive types
+one_type : {t : Token} → IsPrimitive t → WholeType 255 (ty.Prim t.text) (t ∷ [])
+one_type p = type.whole (type.primitive p) type.none (lit≤ tt)
+
+boolean_type : WholeType 255 (ty.Prim (codes "boolean")) (key "boolean" 0 ∷ [])
+boolean_type = one_type (type.boolean refl refl)
+
+byte_type : WholeType 255 (ty.Prim (codes "byte")) (key "byte" 0 ∷ [])
+byte_type = one_type (type.byte refl refl)
+
+short_type : WholeType 255 (ty.Prim (codes "short")) (key "short" 0 ∷ [])
+short_type = one_type (type.short refl refl)
+
+char_type : WholeType 255 (ty.Prim (codes "char")) (key "char" 0 ∷ [])
+char_type = one_type (type.char refl refl)
+
+int_type : WholeType 255 (ty.Prim (codes "int")) (key "int" 0 ∷ [])
+int_type = one_type (type.int refl refl)
+
+long_type : WholeType 255 (ty.Prim (codes "long")) (key "long" 0 ∷ [])
+long_type = one_type (type.long refl refl)

@@ -21,7 +21,7 @@ use Rattle.jav_tree.proofs.Spelled.{nm, num, un, bin, set}
 use Rattle.jav_tree.proofs.Laid.{text-Prim, text-Named, text-Void, laid-placed, laid-Name, laid-Lit, laid-Binary, laid-Assign, laid-Return, laid-Do, laid-stmt, laid-block, laid-Unary, laid-Cast, laid-Dot, primitive-Prim, primitive-Named}
 
 -- the texts of lines, each with its end
-abbrev lines : List String → List ℕ
+abbrev pub lines : List String → List ℕ
 lines [] = []
 lines (line ∷ rest) = codes line ++ line_end ++ lines rest
 

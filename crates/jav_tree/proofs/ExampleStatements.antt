@@ -13,11 +13,11 @@ use Rattle.jav_tree.specs.declared.stmt.StmtNode.TheVariants as stmt
 use Rattle.jav_tree.specs.Blocks.{block_of}
 use Rattle.jav_tree.specs.Tokens as token
 use Rattle.jav_tree.specs.Types as type
-use Rattle.jav_tree.specs.Expressions.{Expression, placed}
+use Rattle.jav_tree.specs.Expressions.{placed}
 use Rattle.jav_tree.specs.Expressions as is
-use Rattle.jav_tree.specs.Statements.{Plain, Choice, Branch, BlockOf, Single, Statements, ConstructorBlock, Declaration, bare}
+use Rattle.jav_tree.specs.Statements.{Plain, BlockOf, Single, ConstructorBlock, bare}
 use Rattle.jav_tree.specs.Statements as st
-use Rattle.jav_tree.proofs.Spelled.{sym, key, word, lit, note, symbol, keyword, named, comment, operator, assigns, steps, int_at, class_at, nm, num, bin, set, is_nm, is_num}
+use Rattle.jav_tree.proofs.Spelled.{sym, key, word, lit, note, symbol, keyword, named, comment, operator, assigns, steps, int_at, class_at, nm, num, un, bin, set, is_nm, is_num}
 
 -- the statement `NAME();` at an offset
 abbrev go : ℕ → String → Stmt
@@ -57,6 +57,19 @@ declared = st.single_declaration (st.declaration (st.yes (keyword "final" 0)) (t
 -- `x = 1;` and `x++;`
 assigned : Single 255 3 (stmt.Do (set "=" (nm 0 "x") (num 4 "1"))) (word "x" 0 ∷ sym "=" 2 ∷ lit "1" 4 ∷ sym ";" 5 ∷ [])
 assigned = st.single_plain (st.expression (is.assign (lit≤ tt) is.name (assigns "=" 2 refl) (is_nm "x" 0) (is_num "1" 4)) (st.assignment (nm 0 "x") (num 4 "1")) (symbol ";" 5))
+
+increased : Single 255 3 (stmt.Do (placed 0 (node.Post (nm 0 "x") (codes "++")))) (word "x" 0 ∷ sym "++" 1 ∷ sym ";" 3 ∷ [])
+increased = st.single_plain (st.expression (is.post (lit≤ tt) is.name (is_nm "x" 0) (steps "++" 1 refl)) (st.step_after (nm 0 "x")) (symbol ";" 3))
+
+-- `++x;`, `super.f();` and `new C();`
+stepped : Single 255 3 (stmt.Do (un 0 "++" (nm 2 "x"))) (sym "++" 0 ∷ word "x" 2 ∷ sym ";" 3 ∷ [])
+stepped = st.single_plain (st.expression (is.step (lit≤ tt) (steps "++" 0 refl) is.name (is_nm "x" 2)) (st.step_before (nm 2 "x") refl) (symbol ";" 3))
+
+super_called : Single 255 2 (stmt.Do (placed 0 (node.SuperCall (codes "f") []))) (key "super" 0 ∷ sym "." 5 ∷ word "f" 6 ∷ sym "(" 7 ∷ sym ")" 8 ∷ sym ";" 9 ∷ [])
+super_called = st.single_plain (st.expression (is.super_call (keyword "super" 0) (symbol "." 5) (named "f" 6) (is.no_arguments (symbol "(" 7) (symbol ")" 8))) (st.super_call []) (symbol ";" 9))
+
+created : Single 255 2 (stmt.Do (placed 0 (node.New (ty.Named (codes "C")) []))) (key "new" 0 ∷ word "C" 4 ∷ sym "(" 5 ∷ sym ")" 6 ∷ sym ";" 7 ∷ [])
+created = st.single_plain (st.expression (is.new (keyword "new" 0) (type.name (named "C" 4)) (is.no_arguments (symbol "(" 5) (symbol ")" 6))) (st.creation []) (symbol ";" 7))
 
 -- `if (x) a();`: the branch stands in a block of its own
 short_if : Single 255 4 (stmt.If (nm 4 "x") (block_of (go 7 "a" ∷ []) []) otherwise.None)
@@ -114,6 +127,13 @@ counted = st.single_plain (st.for (keyword "for" 0) (symbol "(" 4)
     (st.some (is.last_listed (is.post (lit≤ tt) is.name (is_nm "i" 23) (steps "++" 24 refl))) (only _ (st.step_after (nm 23 "i")))) (symbol ")" 26)
     (st.plain_branch token.none (st.nothing (symbol ";" 28))))
 
+-- `for (i = 0;;) ;`
+assigned_first : Single 255 3 (stmt.For (for_start.Do (set "=" (nm 5 "i") (num 9 "0") ∷ [])) None [] (block_of (bare 14 stmt.Empty ∷ []) []))
+    (key "for" 0 ∷ sym "(" 4 ∷ word "i" 5 ∷ sym "=" 7 ∷ lit "0" 9 ∷ sym ";" 10 ∷ sym ";" 11 ∷ sym ")" 12 ∷ sym ";" 14 ∷ [])
+assigned_first = st.single_plain (st.for (keyword "for" 0) (symbol "(" 4)
+    (st.expressions (is.last_listed (is.assign (lit≤ tt) is.name (assigns "=" 7 refl) (is_nm "i" 5) (is_num "0" 9))) (only _ (st.assignment (nm 5 "i") (num 9 "0"))))
+    (symbol ";" 10) st.no (symbol ";" 11) st.none (symbol ")" 12) (st.plain_branch token.none (st.nothing (symbol ";" 14))))
+
 -- `for (final C c : cs) {}`
 each_one : Single 255 2 (stmt.Each true (ty.Named (codes "C")) (codes "c") (nm 17 "cs") (block_of [] []))
     (key "for" 0 ∷ sym "(" 4 ∷ key "final" 5 ∷ word "C" 11 ∷ word "c" 13 ∷ sym ":" 15 ∷ word "cs" 17 ∷ sym ")" 19 ∷ sym "{" 21 ∷ sym "}" 22 ∷ [])
@@ -137,3 +157,7 @@ super_first : ConstructorBlock 255 3 (bare 2 (stmt.SuperInit (num 8 "1" ∷ []))
 super_first = st.super_first (symbol "{" 0) token.none
     (st.super_start (keyword "super" 2) (is.some_arguments (symbol "(" 7) (is.last_listed (is_num "1" 8)) (symbol ")" 9) (lit≤ tt)) (symbol ";" 10))
     st.no_statements token.none (symbol "}" 12)
+
+-- `{ ; }`: the block of a constructor need not begin with `super(..)`
+usual : ConstructorBlock 255 2 (bare 2 stmt.Empty ∷ []) [] (sym "{" 0 ∷ sym ";" 2 ∷ sym "}" 4 ∷ [])
+usual = st.usual (st.braced (symbol "{" 0) (st.more_statements token.none (st.single_plain (st.nothing (symbol ";" 2))) st.no_statements) token.none (symbol "}" 4))

@@ -15,7 +15,7 @@ use Rattle.jav_tree.specs.Expressions as is
 abbrev pub capped : ℕ → ℕ
 capped h = min h 0xffff_ffff
 
-of_placed : (at : ℕ) (n : ExprNode) → expr_height (placed at n) ≡ expr_node_height n
+pub of_placed : (at : ℕ) (n : ExprNode) → expr_height (placed at n) ≡ expr_node_height n
 of_placed at n = fold-roll-Expr _ _ expr_node_step expr_step (record { at = at; node = n })
 
 of-Lit : (at : ℕ) (x0 : List ℕ) → expr_height (placed at (node.Lit x0)) ≡ 1

@@ -10,9 +10,10 @@ use Rattle.jav_tree.specs.declared.stmt.Else.{Else}
 use Rattle.jav_tree.specs.declared.stmt.Else.TheVariants as otherwise
 use Rattle.jav_tree.specs.declared.stmt.StmtNode.{StmtNode}
 use Rattle.jav_tree.specs.declared.stmt.StmtNode.TheVariants as node
-use Rattle.jav_tree.specs.declared.stmt.Block.{Block}
+use Rattle.jav_tree.specs.declared.stmt.Block.{Block, out-Block}
 use Rattle.jav_tree.specs.declared.stmt.Stmt.{Stmt}
 use Rattle.jav_tree.specs.declared.stmt.Else.TheOpen.{Else-F, StmtNode-F}
+use Rattle.jav_tree.specs.declared.stmt.Else.TheViews.{out-roll-Block}
 use Rattle.jav_tree.specs.declared.stmt.Else.TheFolds.{fold-roll-Else, fold-roll-StmtNode, fold-roll-Block, fold-roll-Stmt}
 use Rattle.jav_tree.specs.declared.unit.Member.{Member}
 use Rattle.jav_tree.specs.declared.unit.Unit.{Unit as Source}
@@ -171,6 +172,12 @@ mutual
 pub height_of_body : {most h : ℕ} {items : List Stmt} {tail : List (List ℕ)} {ts : List Token} → ConstructorBlock most h items tail ts → block_height (block_of items tail) ≡ capped h
 height_of_body (st.usual p) = height_of_block p
 height_of_body (st.super_first {n} {notes} _ _ p q _ _) = of-block _ _ ∙ one_above _ _ (highest_of _ _ _ _ (of-stmt notes _ n ∙ height_of_super p) (height_of_statements q))
+
+-- The height that a walk over the statements of a body counts.
+pub counted_body : {most h : ℕ} {items : List Stmt} {tail : List (List ℕ)} {ts : List Token} (b : Block) {seen : List Stmt} {highest result : ℕ} → ConstructorBlock most h items tail ts
+    → b ≡ block_of items tail → seen ≡ (out-Block b).items → highest ≡ tallest (map stmt_height seen) → result ≡ above highest → result ≡ capped h
+counted_body {items} {tail} b p e s m r = r ∙ ap above (m ∙ ap (λ xs. tallest (map stmt_height xs)) (s ∙ ap (λ z. (out-Block z).items) e ∙ ap (λ z. z.items) (out-roll-Block (record { items = items; tail = tail }))))
+    ∙ sym (of-block items tail) ∙ height_of_body p
 
 height_of_further : {most h : ℕ} {places : List ℕ} {ds : List Declarator} {ts : List Token} (words : List (List ℕ)) (to : TypeName) → Variables most h places ds ts
     → tallest (map member_height (further_fields words to places ds)) ≡ capped h

@@ -111,7 +111,7 @@ pub told-Index : (x0 y0 : Expr) (x1 y1 : Expr) → (unplaced_expr_node (Index x0
 told-Index x0 y0 x1 y1 =
     (λ i. parts-Index (unplaced_expr x0) (unplaced_expr y0) (unplaced_expr x1) (unplaced_expr y1) (sym (unplaced-Index x0 x1) ∙ i ∙ unplaced-Index y0 y1), λ j. (let k : Index (unplaced_expr x0) (unplaced_expr x1) ≡ Index (unplaced_expr y0) (unplaced_expr y1) = cc in unplaced-Index x0 x1 ∙ k ∙ sym (unplaced-Index y0 y1)))
 
-parts-Unary : (x0 y0 : List ℕ) (x1 y1 : Expr) → Unary x0 x1 ≡ Unary y0 y1 → (x0 ≡ y0) × (x1 ≡ y1)
+pub parts-Unary : (x0 y0 : List ℕ) (x1 y1 : Expr) → Unary x0 x1 ≡ Unary y0 y1 → (x0 ≡ y0) × (x1 ≡ y1)
 parts-Unary x0 y0 x1 y1 e =
     let layers : ExprNode-F.Unary x0 x1 ≡ ExprNode-F.Unary y0 y1 = sym (out-roll-ExprNode (ExprNode-F.Unary x0 x1)) ∙ ap out-ExprNode (rolls-Unary x0 x1 ∙ e ∙ sym (rolls-Unary y0 y1)) ∙ out-roll-ExprNode (ExprNode-F.Unary y0 y1) in
     (cc, cc)
@@ -123,7 +123,7 @@ pub told-Unary : (x0 y0 : List ℕ) (x1 y1 : Expr) → (unplaced_expr_node (Unar
 told-Unary x0 y0 x1 y1 =
     (λ i. parts-Unary x0 y0 (unplaced_expr x1) (unplaced_expr y1) (sym (unplaced-Unary x0 x1) ∙ i ∙ unplaced-Unary y0 y1), λ j. (let k : Unary x0 (unplaced_expr x1) ≡ Unary y0 (unplaced_expr y1) = cc in unplaced-Unary x0 x1 ∙ k ∙ sym (unplaced-Unary y0 y1)))
 
-parts-Post : (x0 y0 : Expr) (x1 y1 : List ℕ) → Post x0 x1 ≡ Post y0 y1 → (x0 ≡ y0) × (x1 ≡ y1)
+pub parts-Post : (x0 y0 : Expr) (x1 y1 : List ℕ) → Post x0 x1 ≡ Post y0 y1 → (x0 ≡ y0) × (x1 ≡ y1)
 parts-Post x0 y0 x1 y1 e =
     let layers : ExprNode-F.Post x0 x1 ≡ ExprNode-F.Post y0 y1 = sym (out-roll-ExprNode (ExprNode-F.Post x0 x1)) ∙ ap out-ExprNode (rolls-Post x0 x1 ∙ e ∙ sym (rolls-Post y0 y1)) ∙ out-roll-ExprNode (ExprNode-F.Post y0 y1) in
     (cc, cc)
@@ -147,7 +147,7 @@ pub told-Binary : (x0 y0 : Expr) (x1 y1 : List ℕ) (x2 y2 : Expr) → (unplaced
 told-Binary x0 y0 x1 y1 x2 y2 =
     (λ i. parts-Binary (unplaced_expr x0) (unplaced_expr y0) x1 y1 (unplaced_expr x2) (unplaced_expr y2) (sym (unplaced-Binary x0 x1 x2) ∙ i ∙ unplaced-Binary y0 y1 y2), λ j. (let k : Binary (unplaced_expr x0) x1 (unplaced_expr x2) ≡ Binary (unplaced_expr y0) y1 (unplaced_expr y2) = cc in unplaced-Binary x0 x1 x2 ∙ k ∙ sym (unplaced-Binary y0 y1 y2)))
 
-parts-Assign : (x0 y0 : Expr) (x1 y1 : List ℕ) (x2 y2 : Expr) → Assign x0 x1 x2 ≡ Assign y0 y1 y2 → (x0 ≡ y0) × (x1 ≡ y1) × (x2 ≡ y2)
+pub parts-Assign : (x0 y0 : Expr) (x1 y1 : List ℕ) (x2 y2 : Expr) → Assign x0 x1 x2 ≡ Assign y0 y1 y2 → (x0 ≡ y0) × (x1 ≡ y1) × (x2 ≡ y2)
 parts-Assign x0 y0 x1 y1 x2 y2 e =
     let layers : ExprNode-F.Assign x0 x1 x2 ≡ ExprNode-F.Assign y0 y1 y2 = sym (out-roll-ExprNode (ExprNode-F.Assign x0 x1 x2)) ∙ ap out-ExprNode (rolls-Assign x0 x1 x2 ∙ e ∙ sym (rolls-Assign y0 y1 y2)) ∙ out-roll-ExprNode (ExprNode-F.Assign y0 y1 y2) in
     (cc, cc, cc)

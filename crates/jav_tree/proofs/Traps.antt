@@ -1,19 +1,14 @@
 -- What is refused, by the side condition that refuses it.
-use Rattle.std.proofs.Common.{◌≡◌, ◌⊎◌, ℕ, List, [], ◌∷◌, codes, Option, Some, None, Bool, true, false, refl, inl, inr, sym as flip, ◌∙◌}
-use Prim.Native.String.{String}
+use Rattle.std.proofs.Common.{◌≡◌, ◌⊎◌, ℕ, List, [], ◌∷◌, codes, Option, Some, None, Bool, true, false, refl, inl, inr}
 use Rattle.mol_base.specs.Token.{Token}
-use Rattle.mol_base.specs.declared.token_kind.TokenKind.TheVariants as kind
 use Rattle.jav_tree.specs.declared.types.TypeName.{TypeName}
-use Rattle.jav_tree.specs.declared.types.TypeName.TheVariants as ty
 use Rattle.jav_tree.specs.declared.expr.Expr.{Expr}
 use Rattle.jav_tree.specs.declared.expr.ExprNode.{ExprNode}
 use Rattle.jav_tree.specs.declared.expr.ExprNode.TheVariants as node
-use Rattle.jav_tree.specs.declared.stmt.Declarator.{Declarator}
 use Rattle.jav_tree.specs.declared.stmt.Let.{Let}
 use Rattle.jav_tree.specs.declared.stmt.StmtNode.{StmtNode}
 use Rattle.jav_tree.specs.declared.stmt.StmtNode.TheVariants as stmt
-use Rattle.jav_tree.specs.Tokens.{IsSymbol, IsKeyword, IsName, IsLiteral, IsComment}
-use Rattle.jav_tree.specs.Words.{FieldWords, MethodWords, AbstractWords, ClassWords, ConstructorWords}
+use Rattle.jav_tree.specs.Words.{FieldWords, AbstractWords, ClassWords, ConstructorWords}
 use Rattle.jav_tree.specs.Expressions.{IsTarget, IsPrimitiveType, MayBeCast}
 use Rattle.jav_tree.specs.Expressions as is
 use Rattle.jav_tree.specs.Statements.{IsStatementExpression, Plain, Choice, Single, Variable}
@@ -74,21 +69,6 @@ no_statement_array _ to sizes k h (st.creation args) = cc
 pub array_creation_is_no_statement : (to : TypeName) (sizes : List Expr) (k : ℕ) → IsStatementExpression (node.NewArray to sizes k) → ⊥
 array_creation_is_no_statement to sizes k = no_statement_array _ to sizes k refl
 
--- `(C) -x` and `(int[]) ++x` are no casts
-not_primitive : (to : TypeName) (q : List ℕ) → to ≡ ty.Named q → IsPrimitiveType to → ⊥
-not_primitive _ q h is.primitive = cc
-
-pub minus_is_no_operand : (q : List ℕ) (at : ℕ) (rest : List Token) → MayBeCast (ty.Named q) (sym "-" at ∷ rest) → ⊥
-minus_is_no_operand q at rest (inl p) = not_primitive _ q refl p
-minus_is_no_operand q at rest (inr f) = f (record { symbol = refl; written = refl })
-
-array_not_primitive : (to item : TypeName) → to ≡ ty.ArrayOf item → IsPrimitiveType to → ⊥
-array_not_primitive _ item h is.primitive = cc
-
-pub step_is_no_operand : (item : TypeName) (at : ℕ) (rest : List Token) → MayBeCast (ty.ArrayOf item) (sym "++" at ∷ rest) → ⊥
-step_is_no_operand item at rest (inl p) = array_not_primitive _ item refl p
-step_is_no_operand item at rest (inr f) = f (record { symbol = refl; written = refl })
-
 -- `if (x) int y;`: a branch that is no block is Plain or Choice, which are no declarations; and `super(..)` is no statement but the first
 plain_no_let : {most h : ℕ} {is_open : Bool} {n : StmtNode} {ts : List Token} (l : Let) → n ≡ stmt.Let l → Plain most h is_open n ts → ⊥
 plain_no_let l h (st.expression _ _ _) = cc
@@ -133,28 +113,9 @@ no_super args h (st.single_choice p) = choice_no_super args h p
 pub later_super_is_refused : {most h : ℕ} {ts : List Token} (args : List Expr) → Single most h (stmt.SuperInit args) ts → ⊥
 later_super_is_refused args = no_super args refl
 
--- `int a[]`: after the name of a variable comes `=`, or nothing of the variable
-second_of_variable : {most h at : ℕ} {d : Declarator} {t u : Token} {rest : List Token} → Variable most h at d (t ∷ u ∷ rest) → IsSymbol "=" u
-second_of_variable (st.valued _ equals _) = equals
-
-bracket_is_no_equals : (text : List ℕ) → text ≡ codes "[" → text ≡ codes "=" → ⊥
-bracket_is_no_equals text e f = let g : codes "[" ≡ codes "=" = flip e ∙ f in cc
-
-pub bracket_after_name : {most h at : ℕ} {d : Declarator} {t u : Token} {rest : List Token} → IsSymbol "[" u → Variable most h at d (t ∷ u ∷ rest) → ⊥
-bracket_after_name {u} bracket v = bracket_is_no_equals u.text bracket.written (second_of_variable v).written
-
--- modifiers: `abstract` before a block, `abstract static`, `public private`, one twice, and words of others
-abstract_with_block : MethodWords (codes "abstract" ∷ []) → ⊥
-abstract_with_block w = let e : false ≡ true = w.known in cc
-
-abstract_and_static : AbstractWords (codes "abstract" ∷ codes "static" ∷ []) → ⊥
-abstract_and_static w = let e : false ≡ true = (w.0).known in cc
-
+-- modifiers: no block without `abstract`, one twice, and words of others
 no_block_not_abstract : AbstractWords (codes "public" ∷ []) → ⊥
 no_block_not_abstract w = let e : false ≡ true = w.1 in cc
-
-two_access_words : FieldWords (codes "public" ∷ codes "private" ∷ []) → ⊥
-two_access_words w = let e : false ≡ true = w.one_access in cc
 
 word_twice : FieldWords (codes "static" ∷ codes "static" ∷ []) → ⊥
 word_twice w = let e : false ≡ true = w.once in cc
@@ -167,19 +128,6 @@ final_constructor w = let e : false ≡ true = w.known in cc
 
 private_class : ClassWords (codes "private" ∷ []) → ⊥
 private_class w = let e : false ≡ true = w.known in cc
-
--- A comment is no other token, so it stands only where the grammar has comments.
-pub comment_is_no_symbol : {text : String} {t : Token} → IsComment t → IsSymbol text t → ⊥
-comment_is_no_symbol c s = let e : kind.Comment ≡ kind.Symbol = flip c.comment ∙ s.symbol in cc
-
-pub comment_is_no_keyword : {text : String} {t : Token} → IsComment t → IsKeyword text t → ⊥
-comment_is_no_keyword c s = let e : kind.Comment ≡ kind.Keyword = flip c.comment ∙ s.keyword in cc
-
-pub comment_is_no_name : {t : Token} → IsComment t → IsName t → ⊥
-comment_is_no_name c s = let e : kind.Comment ≡ kind.Word = flip c.comment ∙ s.word in cc
-
-pub comment_is_no_literal : {t : Token} → IsComment t → IsLiteral t → ⊥
-comment_is_no_literal c s = let e : kind.Comment ≡ kind.Literal = flip c.comment ∙ s.literal in cc
 
 -- the features at some tokens
 feature_of_this_call : feature_at (key "this" 0 ∷ []) (sym "(" 4) ≡ Some feature.this_call

@@ -9,6 +9,10 @@ pub mod Layout
 pub mod Lines
 pub mod Members
 pub mod Operators
+pub mod Outline
+pub mod OutlineExpressions
+pub mod OutlineStatements
+pub mod OutlineUnits
 pub mod Parens
 pub mod Places
 pub mod Statements

@@ -1,3 +1,5 @@
+mod files;
+
 use crate::{Block, Expr, ExprNode, Stmt, StmtNode};
 use mol_base::{Boxed, List, OutOfMemory, Text};
 use std::alloc::Global;

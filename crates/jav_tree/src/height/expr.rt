@@ -1,4 +1,6 @@
-ghost use Rattle.std.specs.Prelude.{◌≡◌, ◌+◌, max, min, map, option_map};
+ghost use Rattle.std.specs.Prelude.{◌≡◌, ℕ, ◌+◌, List, max, min, map, option_map};
+ghost use Rattle.mol_base.specs.Token.{Token};
+ghost use Rattle.jav_tree.specs.Expressions.{Expression};
 ghost use Rattle.jav_tree.specs.Height.{expr_height, expr_node_height, tallest, tallest_maybe, maybe_height};
 
 use crate::expr::{Expr, ExprNode};
@@ -9,7 +11,9 @@ impl Expr {
     /// holds. Parentheses count. The greatest `u32` stands for all that is higher.
     #[cycle(height_expr)]
     pub fn height(&self) -> u32
-        ensures { result ≡ expr_height self.now }
+        ensures value { result ≡ expr_height self.now }
+        // It is the height that the grammar speaks of.
+        ensures grammar { (most level h : ℕ) (ts : List Token) → Expression most level h self.now ts → result ≡ min h 0xffff_ffff }
     {
         self.node.height()
     }

@@ -1,5 +1,9 @@
-ghost use Rattle.std.specs.Prelude.{◌≡◌, map};
+ghost use Rattle.std.specs.Prelude.{◌≡◌, ℕ, List, map, min};
+ghost use Rattle.mol_base.specs.Token.{Token};
+ghost use Rattle.jav_tree.specs.Blocks.{block_of};
 ghost use Rattle.jav_tree.specs.Height as spec;
+ghost use Rattle.jav_tree.specs.Statements.{ConstructorBlock};
+ghost use Rattle.jav_tree.specs.declared.stmt.Stmt.{Stmt};
 
 use crate::height::{above, height_maybe, tallest};
 use crate::stmt::{Block, Declarator, Else, ForStart, Let, Stmt, StmtNode};
@@ -39,7 +43,9 @@ impl Block {
     /// holds. The greatest `u32` stands for all that is higher.
     #[cycle(height_stmt)]
     pub fn height(&self) -> u32
-        ensures { result ≡ spec.block_height self.now }
+        ensures value { result ≡ spec.block_height self.now }
+        // It is the height that the grammar speaks of.
+        ensures grammar { (most h : ℕ) (items : List Stmt) (tail : List (List ℕ)) (ts : List Token) → ConstructorBlock most h items tail ts → self.now ≡ block_of items tail → result ≡ min h 0xffff_ffff }
     {
         above(tallest_stmts(self.items.items()))
     }

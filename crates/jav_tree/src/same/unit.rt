@@ -9,7 +9,8 @@ use crate::unit::{ClassDecl, Ctor, Field, Member, Method, Param, Unit};
 impl Unit {
     /// Whether the units are equal but for places.
     pub fn same(&self, other: &Unit) -> bool
-        ensures { IsTrue result ↔ spec.unplaced_unit self.now ≡ spec.unplaced_unit other.now }
+        ensures value { IsTrue result ↔ spec.SameUnit self.now other.now }
+        ensures equivalence { spec.IsEquivalence spec.SameUnit × spec.IsEquivalence spec.SameBlock × spec.IsEquivalence spec.SameExpr }
     {
         if !same_texts(self.head.items(), other.head.items()) {
             return false;
