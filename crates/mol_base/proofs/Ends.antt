@@ -12,7 +12,7 @@ use Rattle.std.proofs.lemmas.List.{length-take-le, get_or-take, get_or-drop, len
 use Rattle.std.proofs.Math.Seq.{take-add, take-append_seam}
 use Rattle.std.proofs.lemmas.Str.{IsUtf8-take, IsUtf8-append, IsUtf8-nil, IsCharBoundary-after_ascii, IsCharBoundary-before_ascii}
 use Rattle.mol_base.specs.Lexical.Characters.{is_space, is_line_end, is_digit, first, second, third, width, first_char, pairs_next}
-use Rattle.mol_base.specs.Lexical.Comments.{line_len, before_close, line_comment, block_comment}
+use Rattle.mol_base.specs.Lexical.Comments.{line_len, before_close, opening, line_comment, block_comment}
 use Rattle.mol_base.specs.Lexical.Names.{name_len, name, starts_name, goes_on, is_start, is_part}
 use Rattle.mol_base.specs.Lexical.Numbers.{run_len, is_run_byte, number, is_float, is_integer, without_suffix}
 use Rattle.mol_base.specs.Lexical.Quoted.{before_quote, before_bad_escape, quoted, fits_between}
@@ -92,20 +92,20 @@ before_close-at (b ∷ bs) h =
     let there : 0 < length bs = first-there bs (omega arith) in (rw (get_or-past b bs 0) slash, omega arith))
     (λ _ inside. let rest = before_close-at bs (omega arith) in (rw (get_or-past b bs (1 + before_close bs)) rest.0, omega (arith, rest.1))) h
 
-get_or-after_two : (r : List ℕ) (n : ℕ) → get_or (drop 2 r) n 0 ≡ get_or r (2 + n) 0
-get_or-after_two r n = get_or-drop 2 r n 0
+get_or-opening : (r : List ℕ) (n : ℕ) → get_or (drop opening r) n 0 ≡ get_or r (opening + n) 0
+get_or-opening r n = get_or-drop opening r n 0
 
-block_comment-within : (r : List ℕ) → 2 ≤ length r → IsWithin r (block_comment r)
+block_comment-within : (r : List ℕ) → 0 < length r → IsWithin r (block_comment r)
 unfolding block_comment
-block_comment-within r room =
-    let body = drop 2 r in
-    let len : length body + 2 ≡ length r = grind (arith, common_steps) in
-    cond_both (nat_lt (before_close body) (length body)) (Taken Comment (2 + before_close body + 2)) (Wrong OpenComment 0) (IsWithin r)
+block_comment-within r some =
+    let body = drop opening r in
+    let len : length body ≡ length r - opening = length-drop opening r in
+    cond_both (nat_lt (before_close body) (length body)) (Taken Comment (opening + before_close body + 2)) (Wrong OpenComment 0) (IsWithin r)
     (λ is. let inside = before_close-at body (ltb-true _ _ is) in
-    let at : 2 + before_close body + 1 ≡ 2 + (1 + before_close body) = omega arith in
-    let end : 2 + before_close body + 2 ≡ 2 + before_close body + 1 + 1 = omega arith in
-    let slash : get_or r (2 + before_close body + 1) 0 ≡ 47 = rw (at, ← get_or-after_two r (1 + before_close body)) inside.0 in
-    (omega arith, omega (arith, inside.1), let P : ℕ → Type 0 = EndsText r in subst P (sym end) (EndsText-ascii r (2 + before_close body + 1) (omega (arith, inside.1)) (omega arith))))
+    let at : opening + before_close body + 1 ≡ opening + (1 + before_close body) = omega arith in
+    let end : opening + before_close body + 2 ≡ opening + before_close body + 1 + 1 = omega arith in
+    let slash : get_or r (opening + before_close body + 1) 0 ≡ 47 = rw (at, ← get_or-opening r (1 + before_close body)) inside.0 in
+    (omega arith, omega (arith, inside.1), let P : ℕ → Type 0 = EndsText r in subst P (sym end) (EndsText-ascii r (opening + before_close body + 1) (omega (arith, inside.1)) (omega arith))))
     (λ _. omega arith)
 
 before_quote-le : (q : ℕ) (e : Bool) (r : List ℕ) → before_quote q e r ≤ length r
@@ -213,7 +213,7 @@ symbol-within r some =
     (λ _. some))))
 
 -- the characters of a name are whole: its bytes are UTF-8, however many there are at most
-name_len-text : (k : ℕ) (r : List ℕ) → length r ≤ k → (name_len 0 r ≤ length r) × IsUtf8 (take (name_len 0 r) r)
+pub name_len-text : (k : ℕ) (r : List ℕ) → length r ≤ k → (name_len 0 r ≤ length r) × IsUtf8 (take (name_len 0 r) r)
 name_len-text zero [] room = (omega arith, IsUtf8-nil)
 name_len-text zero (b ∷ bs) room = absurd (omega arith)
 name_len-text (suc k) r room = by_case (goes_on r) refl (λ less. name_len-text k (drop (width (first r)) r) less) where
@@ -250,7 +250,7 @@ front-within r some =
     cond_both (is_space a) Space _ (IsWithin r) (λ is. is)
     (λ _. cond_both (nat_eq a 47 && nat_eq b 47) (line_comment r) _ (IsWithin r) (λ is. line_comment-within r some (eqb-true a 47 (and_parts (nat_eq a 47) (nat_eq b 47) is).0))
     (λ _. cond_both (nat_eq a 47 && nat_eq b 42) (block_comment r) _ (IsWithin r)
-    (λ is. let star : b ≡ 42 = eqb-true b 42 (and_parts (nat_eq a 47) (nat_eq b 42) is).1 in let there : 1 < length r = get_or-there r 1 (omega arith) in block_comment-within r (omega arith))
+    (λ _. block_comment-within r some)
     (λ _. cond_both (nat_eq a 34 && nat_eq b 34 && nat_eq (third r) 34) (Wrong TextBlock 0) _ (IsWithin r) (λ _. some)
     (λ _. cond_both (nat_eq a 34 || nat_eq a 39) (quoted a r) _ (IsWithin r) (λ is. quoted-within a r some (grind (arith, nat_tests, is)) (grind (arith, nat_tests, is)))
     (λ _. cond_both (is_digit a) (number r) _ (IsWithin r) (λ is. number-within r some is)

@@ -1,9 +1,11 @@
 -- What `first_char` tells of the bytes.
-use Rattle.std.proofs.Common.{◌≡◌, ℕ, ◌≤◌, Bool, true, false, ◌&&◌, List, take, length, Option, None, refl, if◌then◌else◌}
+use Rattle.std.proofs.Common.{◌≡◌, ℕ, ◌≤◌, ◌<◌, Bool, true, false, ◌&&◌, List, [], ◌∷◌, take, length, Option, None, Some, refl, ap, ◌∙◌, subst, sym, arith, if◌then◌else◌}
 use Rattle.std.specs.Prelude.{slice_get, is_some, nat_le}
 use Rattle.std.specs.Str.{chars, IsUtf8, is_utf8}
-use Rattle.std.proofs.lemmas.Bool.{leb-true, le-leb}
-use Rattle.std.proofs.lemmas.Str.{IsUtf8-from_is_utf8, is_utf8-from_IsUtf8}
+use Rattle.std.proofs.lemmas.Bool.{leb-true, le-leb, lt-ltb}
+use Rattle.std.proofs.lemmas.Str.{IsUtf8-from_is_utf8, is_utf8-from_IsUtf8, IsUtf8-from_ascii, chars-IsAscii}
+use Rattle.std.proofs.lemmas.Str.Ascii.{IsAscii-cons, IsAscii-nil}
+use Rattle.std.specs.Str.{IsAscii}
 use Rattle.mol_base.specs.Lexical.Characters.{first, width, first_char}
 
 pub false_unless : (b : Bool) → (b ≡ true → ⊥) → b ≡ false
@@ -39,3 +41,15 @@ unfolding first_char
 first_char-some bytes h =
     let parts = private_parts (nat_le (width (first bytes)) (length bytes)) (is_utf8 (take (width (first bytes)) bytes)) (slice_get (chars (take (width (first bytes)) bytes)) 0) h in
     (leb-true _ _ parts.0, IsUtf8-from_is_utf8 _ parts.1)
+
+pub width-ascii : (b : ℕ) → b < 128 → width b ≡ 1
+width-ascii b low = rw (lt-ltb b 128 low) refl
+
+-- a byte below 128 is a character
+pub first_char-ascii : (b : ℕ) (bs : List ℕ) → b < 128 → first_char (b ∷ bs) ≡ Some b
+first_char-ascii b bs low =
+    let one : width b ≡ 1 = width-ascii b low in
+    let ascii : IsAscii (b ∷ []) = IsAscii-cons b [] low IsAscii-nil in
+    let front : take (width b) (b ∷ bs) ≡ b ∷ [] = ap (λ n. take n (b ∷ bs)) one in
+    let text : IsUtf8 (take (width b) (b ∷ bs)) = subst IsUtf8 (sym front) (IsUtf8-from_ascii (b ∷ []) ascii) in
+    first_char-is (b ∷ bs) (omega arith) text ∙ ap (λ xs. slice_get (chars xs) 0) front ∙ ap (λ xs. slice_get xs 0) (chars-IsAscii (b ∷ []) ascii)

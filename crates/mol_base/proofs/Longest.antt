@@ -6,7 +6,7 @@ use Rattle.std.proofs.lemmas.Bool.{and_parts, cases_Bool, cond_both, ltb-true, e
 use Rattle.std.proofs.lemmas.Bool.Decides.{nat_tests}
 use Rattle.std.proofs.lemmas.List.{length-take-le, get_or-take, drop-take, length-drop}
 use Rattle.mol_base.specs.Lexical.Characters.{is_space, is_line_end, is_digit, first, second, third, width, first_char, pairs_next}
-use Rattle.mol_base.specs.Lexical.Comments.{line_len, before_close, line_comment, block_comment}
+use Rattle.mol_base.specs.Lexical.Comments.{line_len, before_close, opening, line_comment, block_comment}
 use Rattle.mol_base.specs.Lexical.Names.{name_len, name, starts_name, goes_on, word_kind, is_start, is_part}
 use Rattle.mol_base.specs.Lexical.Numbers.{run_len, is_run_byte, number, is_float, is_integer, without_suffix}
 use Rattle.mol_base.specs.Lexical.Quoted.{before_quote, before_bad_escape, quoted, fits_between}
@@ -18,6 +18,7 @@ use Rattle.mol_base.specs.declared.lexical.front.Front.{Front}
 use Rattle.mol_base.specs.declared.lexical.front.Front.TheVariants.{Space, Taken, Wrong}
 use Rattle.mol_base.specs.declared.lexical.front.Flaw.TheVariants.{BadChar, OpenString, OpenComment, BadEscape, FloatLiteral, BadNumber, TextBlock, NameTooLong}
 use Rattle.mol_base.proofs.Naming.{name_len-goes_on, name_len-stops}
+use Rattle.mol_base.proofs.Whole.{IsToken-whole, IsWhole-token}
 use Rattle.mol_base.proofs.Ends.{take-shorter, front-within, get_or-there, starts-goes_on, line_len-slash}
 
 -- a byte of a front is that byte, or the front has ended
@@ -86,7 +87,7 @@ run_len-take (b ∷ bs) zero h = omega arith
 run_len-take (b ∷ bs) (suc m) h = run_agree (is_run_byte b) (run_len bs) (run_len (take m bs)) m (λ le. run_len-take bs m le) h
 
 -- the first character of a front that has it whole, and of one that cuts it
-first_char-take : (r : List ℕ) (m : ℕ) → 0 < m → m ≤ length r → width (first r) ≤ m → first_char (take m r) ≡ first_char r
+pub first_char-take : (r : List ℕ) (m : ℕ) → 0 < m → m ≤ length r → width (first r) ≤ m → first_char (take m r) ≡ first_char r
 unfolding first_char
 first_char-take r m some room whole =
     let here : first (take m r) ≡ first r = get_or-take m r 0 0 some in
@@ -122,7 +123,7 @@ goes_on-kept : (r : List ℕ) (m : ℕ) → width (first r) ≤ m → m ≤ leng
 unfolding goes_on
 goes_on-kept r m whole room goes = rw (first_char-take r m (omega arith) room whole) goes
 
-name_len-take : (k : ℕ) (r : List ℕ) (m : ℕ) → length r ≤ k → m ≤ length r → name_len 0 r ≤ m → name_len 0 (take m r) ≡ name_len 0 r
+pub name_len-take : (k : ℕ) (r : List ℕ) (m : ℕ) → length r ≤ k → m ≤ length r → name_len 0 r ≤ m → name_len 0 (take m r) ≡ name_len 0 r
 name_len-take zero r m small room h = let none : m ≡ 0 = omega arith in rw none (omega arith)
 name_len-take (suc k) r m small room h = by_case (goes_on r) refl (name_len-take k (drop (width (first r)) r) (m - width (first r))) where
   by_case : (t : Bool) → goes_on r ≡ t
@@ -149,26 +150,26 @@ line_comment-stable r m n kind is le =
     let len : line_len r ≡ n = cc in
     ap (λ (x : ℕ). Taken Comment x) (line_len-take r m (omega arith)) ∙ is
 
-after_two : (r : List ℕ) (m : ℕ) → 2 ≤ m → drop 2 (take m r) ≡ take (m - 2) (drop 2 r)
-after_two r m some = let sum : 2 + (m - 2) ≡ m = omega arith in ap (λ (n : ℕ). drop 2 (take n r)) (sym sum) ∙ drop-take 2 (m - 2) r
+after_opening : (r : List ℕ) (m : ℕ) → opening ≤ m → drop opening (take m r) ≡ take (m - opening) (drop opening r)
+after_opening r m some = let sum : opening + (m - opening) ≡ m = omega arith in ap (λ (n : ℕ). drop opening (take n r)) (sym sum) ∙ drop-take opening (m - opening) r
 
 after_one : (r : List ℕ) (m : ℕ) → 1 ≤ m → drop 1 (take m r) ≡ take (m - 1) (drop 1 r)
 after_one r m some = let sum : 1 + (m - 1) ≡ m = omega arith in ap (λ (n : ℕ). drop 1 (take n r)) (sym sum) ∙ drop-take 1 (m - 1) r
 
-block_len : (t : Bool) (k n : ℕ) (kind : TokenKind) → cond t (Taken Comment (2 + k + 2)) (Wrong OpenComment 0) ≡ Taken kind n → (t ≡ true) × (2 + k + 2 ≡ n)
+block_len : (t : Bool) (k n : ℕ) (kind : TokenKind) → cond t (Taken Comment (opening + k + 2)) (Wrong OpenComment 0) ≡ Taken kind n → (t ≡ true) × (opening + k + 2 ≡ n)
 block_len true k n kind is = (refl, cc)
 block_len false k n kind is = absurd cc
 
 block_comment-stable : (r : List ℕ) (m n : ℕ) (kind : TokenKind) → m ≤ length r → block_comment r ≡ Taken kind n → n ≤ m → block_comment (take m r) ≡ Taken kind n
 unfolding block_comment
 block_comment-stable r m n kind room is le =
-    let body = drop 2 r in
+    let body = drop opening r in
     let end = block_len (nat_lt (before_close body) (length body)) (before_close body) n kind is in
-    let same : before_close (take (m - 2) body) ≡ before_close body = before_close-take body (m - 2) (omega (arith, end.1)) in
-    let len : length body ≡ length r - 2 = length-drop 2 r in
-    let len' : length (take (m - 2) body) ≡ m - 2 = length-take-le (m - 2) body (omega arith) in
-    let lt : nat_lt (before_close body) (m - 2) ≡ true = lt-ltb _ _ (omega (arith, end.1)) in
-    rw (after_two r m (omega (arith, end.1)), same, len', lt) (rw end.0 at is)
+    let same : before_close (take (m - opening) body) ≡ before_close body = before_close-take body (m - opening) (omega (arith, end.1)) in
+    let len : length body ≡ length r - opening = length-drop opening r in
+    let len' : length (take (m - opening) body) ≡ m - opening = length-take-le (m - opening) body (omega arith) in
+    let lt : nat_lt (before_close body) (m - opening) ≡ true = lt-ltb _ _ (omega (arith, end.1)) in
+    rw (after_opening r m (omega (arith, end.1)), same, len', lt) (rw end.0 at is)
 
 quoted_len : (t u w : Bool) (k j n : ℕ) (kind : TokenKind) → cond t (Wrong OpenString 0) (cond u (Wrong BadEscape j) (cond w (Taken Literal (k + 2)) (Wrong OpenString 0))) ≡ Taken kind n → k + 2 ≡ n
 quoted_len true u w k j n kind is = absurd cc
@@ -263,7 +264,7 @@ three_quotes-cut r m some room fails = by_place (cases_Bool (nat_lt 2 m)) where
   by_place (inl is) = let all : 2 < m = ltb-true 2 m is in rw (get_or-take m r 1 0 (omega arith), get_or-take m r 2 0 all) fails
   by_place (inr is) = rw (byte_lost r m 2 room (grind (arith, nat_tests, is))) (and_false _)
 
-starts_name-cut : (r : List ℕ) (m : ℕ) → 0 < m → m ≤ length r → starts_name r ≡ false → starts_name (take m r) ≡ false
+pub starts_name-cut : (r : List ℕ) (m : ℕ) → 0 < m → m ≤ length r → starts_name r ≡ false → starts_name (take m r) ≡ false
 unfolding starts_name
 starts_name-cut r m some room fails = mapped_cut is_start r m some room fails
 
@@ -290,7 +291,7 @@ line_comment-two r n kind slashes is =
 
 block_comment-two : (r : List ℕ) (n : ℕ) (kind : TokenKind) → block_comment r ≡ Taken kind n → 2 ≤ n
 unfolding block_comment
-block_comment-two r n kind is = omega (arith, (block_len (nat_lt (before_close (drop 2 r)) (length (drop 2 r))) (before_close (drop 2 r)) n kind is).1)
+block_comment-two r n kind is = omega (arith, (block_len (nat_lt (before_close (drop opening r)) (length (drop opening r))) (before_close (drop opening r)) n kind is).1)
 
 symbol-stable : (r : List ℕ) (m n : ℕ) (kind : TokenKind) → 0 < m → m ≤ length r → symbol r ≡ Taken kind n → n ≤ m → symbol (take m r) ≡ Taken kind n
 unfolding symbol
@@ -367,9 +368,10 @@ front-longest r some = by_front (front r) refl (front-within r some) where
   by_front (Taken kind n) is within =
       let len : length (take n r) ≡ n = length-take-le n r within.1 in
       record {
-        whole = front-stable r n n kind within.0 within.1 is (omega arith) ∙ ap (λ (x : ℕ). Taken kind x) (sym len);
-        no_longer = λ m other more room whole.
+        token = IsToken-whole kind (take n r) (front-stable r n n kind within.0 within.1 is (omega arith) ∙ ap (λ (x : ℕ). Taken kind x) (sym len));
+        no_longer = λ m other more room token.
             let len' : length (take m r) ≡ m = length-take-le m r room in
+            let whole : front (take m r) ≡ Taken other (length (take m r)) = IsWhole-token other (take m r) token in
             let shorter : front (take m r) ≡ Taken kind n = front-stable r m n kind within.0 room is (omega arith) in
             let same : n ≡ length (take m r) = cc in
             omega arith;

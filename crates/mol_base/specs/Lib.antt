@@ -1,9 +1,15 @@
+pub mod Among
 pub mod Identity
 pub mod Lexical
 pub mod Limits
 pub mod Lines
+pub mod Modifiers
 pub mod Number
+pub mod Operators
 pub mod Order
+pub mod Paths
+pub mod ReservedWords
+pub mod Source
 pub mod Spelled
 pub mod Tag
 pub mod TagFault

@@ -12,3 +12,11 @@ most Height = 500
 most Operations = 65535
 most LogBytes = 16777216
 most ScriptBytes = 16777216
+
+-- the greatest number of parameters, of arguments, and of dimensions of an array (JVMS 4.11)
+abbrev pub max_items : ℕ
+max_items = 255
+
+-- the greatest number of bytes of a name
+abbrev pub max_name_bytes : ℕ
+max_name_bytes = 255

@@ -1,23 +1,24 @@
 -- Lines and columns of a source. A line ends at LF, at CR, or at CR LF (JLS 3.4).
-use Rattle.std.specs.Prelude.{ℕ, ◌+◌, ◌-◌, Bool, ◌||◌, ◌&&◌, ◌==◌, not, List, [], ◌∷◌, if◌then◌else◌}
+use Rattle.std.specs.Prelude.{ℕ, ◌+◌, Bool, ◌||◌, ◌&&◌, ◌==◌, not, List, slice_index}
 use Rattle.std.specs.Int.{is_in_range}
-use Rattle.mol_base.specs.Lexical.Characters.{first}
+use Rattle.std.specs.List.{count_by, range_with_len}
 
--- the byte is the last of a line end, where these bytes follow it
-abbrev pub ends_line : ℕ → List ℕ → Bool
-ends_line b after = b == 10 || (b == 13 && not (first after == 10))
+-- the byte at the place is the last of a line end: LF, or CR that no LF follows
+abbrev pub ends_line : List ℕ → ℕ → Bool
+ends_line bytes place = slice_index bytes place == 10 || (slice_index bytes place == 13 && not (slice_index bytes (place + 1) == 10))
 
--- the byte goes on with a character of UTF-8
-abbrev pub is_continuation : ℕ → Bool
-is_continuation b = is_in_range 128 191 b
+-- a character begins at the place: its byte goes on with none (RFC 3629, section 3)
+abbrev pub begins_character : List ℕ → ℕ → Bool
+begins_character bytes place = not (is_in_range 128 191 (slice_index bytes place))
 
--- how many line ends the first `n` bytes have
-abbrev pub line_ends : ℕ → List ℕ → ℕ
-line_ends n [] = 0
-line_ends n (b ∷ bs) = if n == 0 then 0 else ((if ends_line b bs then 1 else 0) + line_ends (n - 1) bs)
+-- how many places below this one pass the test
+abbrev pub count_below : ℕ → (ℕ → Bool) → ℕ
+count_below place test = count_by test (range_with_len 0 place)
 
--- the column after the first `n` bytes, which begin at this column: the first one after a line end, and
--- one more after each character
-abbrev pub column : ℕ → ℕ → List ℕ → ℕ
-column from n [] = from
-column from n (b ∷ bs) = if n == 0 then from else column (if ends_line b bs then 1 else (if is_continuation b then from else from + 1)) (n - 1) bs
+-- the line of a place: one more than the line ends before it
+unfoldable pub line : List ℕ → ℕ → ℕ
+line bytes place = 1 + count_below place (ends_line bytes)
+
+-- the column of a place: one more than the characters that begin before it on its line
+unfoldable pub column : List ℕ → ℕ → ℕ
+column bytes place = 1 + count_below place (λ i. line bytes i == line bytes place && begins_character bytes i)

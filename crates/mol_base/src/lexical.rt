@@ -11,3 +11,4 @@ mod symbols;
 pub use bytes::before_unicode_escape;
 pub(crate) use bytes::byte_at;
 pub use front::{Flaw, Front, front_of, text_kind};
+pub(crate) use names::{is_keyword, is_word_literal};

@@ -1,6 +1,13 @@
 //! The numbers that inputs and results may not pass.
 ghost use Rattle.std.specs.Prelude.{◌≡◌};
 
+/// The greatest number of parameters of a method, of arguments of a call, and of dimensions of an array
+/// (JVMS 4.11).
+pub const MAX_ITEMS: usize = 255;
+
+/// The greatest number of bytes of a name.
+pub const MAX_NAME_BYTES: usize = 255;
+
 /// What is counted.
 #[derive(Clone, Copy, Debug, PartialEq, Eq)]
 pub enum Which {

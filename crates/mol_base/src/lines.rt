@@ -9,39 +9,34 @@ use crate::lexical::byte_at;
 pub fn line_and_column(bytes: &[u8], at: usize) -> (u32, u32)
     requires inside { at ≤ length bytes.now }
     requires small { length bytes.now + 1 < 2 ^ 32 }
-    ensures line { result.0 ≡ 1 + spec.line_ends at bytes.now }
-    ensures column { result.1 ≡ spec.column 1 at bytes.now }
+    ensures line { result.0 ≡ spec.line bytes.now at }
+    ensures column { result.1 ≡ spec.column bytes.now at }
 {
     let mut line: u32 = 1;
     let mut column: u32 = 1;
-    let mut left = at;
-    let mut rest = bytes;
-    while let [first, after @ ..] = rest {
-        if left == 0 {
-            return (line, column);
-        }
-        if ends_line(*first, after) {
+    for place in 0..at {
+        if ends_line(bytes, place) {
             line += 1;
             column = 1;
-        } else if !is_continuation(*first) {
+        } else if begins_character(bytes, place) {
             column += 1;
         }
-        left -= 1;
-        rest = after;
     }
     (line, column)
 }
 
-/// Whether the byte is the last of a line end, where these bytes follow it.
-fn ends_line(byte: u8, after: &[u8]) -> bool
-    ensures { result ≡ spec.ends_line byte after.now }
+/// Whether the byte at a place is the last of a line end.
+fn ends_line(bytes: &[u8], place: usize) -> bool
+    requires { place < length bytes.now }
+    ensures { result ≡ spec.ends_line bytes.now place }
 {
-    byte == b'\n' || (byte == b'\r' && byte_at(after, 0) != b'\n')
+    let byte = byte_at(bytes, place);
+    byte == b'\n' || (byte == b'\r' && byte_at(bytes, place + 1) != b'\n')
 }
 
-/// Whether the byte goes on with a character of UTF-8.
-fn is_continuation(byte: u8) -> bool
-    ensures { result ≡ spec.is_continuation byte }
+/// Whether a character of UTF-8 begins at a place.
+fn begins_character(bytes: &[u8], place: usize) -> bool
+    ensures { result ≡ spec.begins_character bytes.now place }
 {
-    (128..=191).contains(&byte)
+    !(128..=191).contains(&byte_at(bytes, place))
 }

@@ -16,10 +16,14 @@ abbrev pub before_close : List ℕ → ℕ
 before_close [] = 0
 before_close (b ∷ bs) = if b == 42 && first bs == 47 then 0 else 1 + before_close bs
 
+-- after how many bytes the end of a comment that begins with `/*` is looked for
+abbrev pub opening : ℕ
+opening = 2
+
 -- of bytes that begin with `/*`: the comment goes to the first `*/` after these two
 unfoldable pub block_comment : List ℕ → Front
-block_comment bytes = let body = drop 2 bytes in
-    if nat_lt (before_close body) (length body) then Taken Comment (2 + before_close body + 2) else Wrong OpenComment 0
+block_comment bytes = let body = drop opening bytes in
+    if nat_lt (before_close body) (length body) then Taken Comment (opening + before_close body + 2) else Wrong OpenComment 0
 
 -- of bytes that begin with `//`: the comment goes up to the end of the line
 unfoldable pub line_comment : List ℕ → Front

@@ -1,5 +1,5 @@
 -- What stands at the front of the rest of a source.
-use Rattle.std.specs.Prelude.{IsTrue, ◌≡◌, ℕ, ◌<◌, ◌≤◌, take, Bool, false, ◌||◌, ◌&&◌, ◌==◌, List, length, Option, Some, None, if◌then◌else◌}
+use Rattle.std.specs.Prelude.{IsTrue, ◌≡◌, ◌↔◌, ℕ, ◌<◌, ◌≤◌, take, Bool, false, ◌||◌, ◌&&◌, ◌==◌, List, length, Option, Some, None, if◌then◌else◌}
 use Rattle.std.specs.Str.{is_utf8, IsUtf8}
 use Rattle.mol_base.specs.Lexical.Characters.{is_space, is_digit, first, second, third, before_unicode_escape}
 use Rattle.mol_base.specs.Lexical.Comments.{line_comment, block_comment}
@@ -7,6 +7,7 @@ use Rattle.mol_base.specs.Lexical.Names.{starts_name, name}
 use Rattle.mol_base.specs.Lexical.Numbers.{number}
 use Rattle.mol_base.specs.Lexical.Quoted.{quoted}
 use Rattle.mol_base.specs.Lexical.Symbols.{symbol}
+use Rattle.mol_base.specs.Lexical.Tokens.{IsToken}
 use Rattle.mol_base.specs.declared.token_kind.TokenKind.{TokenKind}
 use Rattle.mol_base.specs.declared.lexical.front.Front.{Front}
 use Rattle.mol_base.specs.declared.lexical.front.Front.TheVariants.{Space, Taken, Wrong}
@@ -50,14 +51,18 @@ IsWithin bytes Space = IsTrue (is_space (first bytes))
 IsWithin bytes (Taken kind n) = (0 < n) × (n ≤ length bytes) × EndsText bytes n
 IsWithin bytes (Wrong flaw at) = at < length bytes
 
--- all of the bytes are one token
+-- all of the bytes are taken as one token
 abbrev pub IsWhole : TokenKind → List ℕ → Type 0
 IsWhole kind bytes = front bytes ≡ Taken kind (length bytes)
 
+-- all of the bytes are taken as a token of a kind exactly where they are one token of it
+abbrev pub TakesTokens : List ℕ → Front → Type 0
+TakesTokens bytes front = (kind : TokenKind) → IsToken kind bytes ↔ (front ≡ Taken kind (length bytes))
+
 -- The first `n` bytes are a token of this kind, and no longer front of the bytes is a token.
 pub record IsLongest (bytes : List ℕ) (kind : TokenKind) (n : ℕ) : Type 0 where
-  pub whole : IsWhole kind (take n bytes)
-  pub no_longer : (m : ℕ) (other : TokenKind) → n < m → m ≤ length bytes → IsWhole other (take m bytes) → ⊥
+  pub token : IsToken kind (take n bytes)
+  pub no_longer : (m : ℕ) (other : TokenKind) → n < m → m ≤ length bytes → IsToken other (take m bytes) → ⊥
 
 -- what is taken at the front is the longest token there
 abbrev pub TakesLongest : List ℕ → Front → Type 0

@@ -4,6 +4,7 @@ use Rattle.std.specs.Option.{option_map_or}
 use Rattle.std.specs.List.{list_any}
 use Rattle.std.specs.Str.{bytes_eq}
 use Rattle.unicode_ident.specs.Ident.{is_xid_start, is_xid_continue}
+use Rattle.mol_base.specs.Limits.{max_name_bytes}
 use Rattle.mol_base.specs.Lexical.Characters.{first, width, first_char}
 use Rattle.mol_base.specs.declared.token_kind.TokenKind.{TokenKind}
 use Rattle.mol_base.specs.declared.token_kind.TokenKind.TheVariants.{Word, Keyword, Literal}
@@ -11,7 +12,7 @@ use Rattle.mol_base.specs.declared.lexical.front.Front.{Front}
 use Rattle.mol_base.specs.declared.lexical.front.Front.TheVariants.{Taken, Wrong}
 use Rattle.mol_base.specs.declared.lexical.front.Flaw.TheVariants.{NameTooLong, BadChar}
 
--- a character that begins an identifier: a letter, `_`, `$`
+-- a character that begins an identifier: one of XID_Start, `_` or `$`
 unfoldable pub is_start : ℕ → Bool
 is_start c = is_xid_start c || c == 95 || c == 36
 
@@ -56,8 +57,8 @@ unfoldable pub word_kind : List ℕ → TokenKind
 word_kind name = if is_keyword name then Keyword else (if is_word_literal name then Literal else Word)
 
 -- of bytes that begin with a character that begins an identifier: the longest run of its characters.
--- More than 255 bytes are too many, and `_` alone is no identifier.
+-- More bytes than the limit are too many, and `_` alone is no identifier.
 unfoldable pub name : List ℕ → Front
 name bytes = let n = name_len 0 bytes in
-    if nat_lt 255 n then Wrong NameTooLong 0
+    if nat_lt max_name_bytes n then Wrong NameTooLong 0
     else (if n == 1 && first bytes == 95 then Wrong BadChar 0 else Taken (word_kind (take n bytes)) n)

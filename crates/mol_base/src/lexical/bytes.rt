@@ -1,6 +1,7 @@
 //! Single bytes, and the character that begins some bytes.
 ghost use Rattle.std.specs.Prelude.{◌≡◌, ◌+◌, ◌<◌, ◌≤◌, length, slice_index, false};
 ghost use Rattle.mol_base.specs.Lexical.Characters as spec;
+ghost use Rattle.mol_base.specs.Lexical.Escapes.{IsBeforeEscape};
 
 /// Whether the byte is white space: space, tab, form feed, CR or LF (JLS 3.6).
 pub fn is_space(byte: u8) -> bool
@@ -64,6 +65,7 @@ pub fn first_char(bytes: &[u8]) -> Option<char>
 /// How many bytes stand before the first backslash that begins a Unicode escape (JLS 3.3): all of them
 /// where there is none.
 pub fn before_unicode_escape(bytes: &[u8]) -> usize
+    ensures first { IsBeforeEscape bytes.now result }
     ensures same { result ≡ spec.before_unicode_escape false bytes.now }
     ensures within { result ≤ length bytes.now }
 {

@@ -17,10 +17,11 @@ pub fn line_comment(bytes: &[u8]) -> Front
 /// The comment at the front of bytes that begin with `/*`.
 #[tactic(auto, unfolding(crate::specs::Lexical::Comments::block_comment))]
 pub fn block_comment(bytes: &[u8]) -> Front
-    requires { 2 ≤ length bytes.now }
     ensures { result ≡ spec.block_comment bytes.now }
 {
-    let body = &bytes[2..];
+    let [_, _, body @ ..] = bytes else {
+        return Front::Wrong(Flaw::OpenComment, 0);
+    };
     let before = before_close(body);
     if before < body.len() {
         Front::Taken(TokenKind::Comment, 2 + before + 2)

@@ -1,6 +1,8 @@
 //! What stands at the front of the rest of a source: white space, a token, or a flaw.
-ghost use Rattle.std.specs.Prelude.{◌≡◌, ◌<◌, ◌≤◌, length};
+ghost use Rattle.std.specs.Prelude.{◌≡◌, ◌<◌, ◌≤◌, length, IfSome};
+ghost use Rattle.mol_base.specs.Lexical.Flaws.{TakesSound, FindsFlaws};
 ghost use Rattle.mol_base.specs.Lexical.Front as spec;
+ghost use Rattle.mol_base.specs.Lexical.Tokens.{IsOneToken};
 
 use crate::TokenKind;
 use crate::lexical::bytes::{before_unicode_escape, byte_at, is_digit, is_space};
@@ -34,15 +36,19 @@ pub enum Front {
     Wrong(Flaw, usize),
 }
 
-/// What stands at the front of some bytes. It takes no memory, and looks no further than the token and
-/// the byte after it.
+/// What stands at the front of some bytes. It takes no memory.
 ///
-/// Where there are bytes, a token is within them and ends where a character does, no longer front of
-/// them is a token, and a flaw stands at one of them.
+/// Where there are bytes, a token is within them and ends where a character does, it is the longest front
+/// of them that is a token, and a flaw stands at one of them. All of the bytes are taken as a token of a
+/// kind exactly where they are one. A token is taken exactly where it is the longest one and no flaw begins
+/// the bytes, and a flaw is found exactly where it begins them.
 pub fn front_of(bytes: &[u8]) -> Front
     ensures same { result ≡ spec.front bytes.now }
     ensures within { 0 < length bytes.now → spec.IsWithin bytes.now result }
     ensures longest { 0 < length bytes.now → spec.TakesLongest bytes.now result }
+    ensures whole { spec.TakesTokens bytes.now result }
+    ensures sound { 0 < length bytes.now → TakesSound bytes.now result }
+    ensures flaws { 0 < length bytes.now → FindsFlaws bytes.now result }
 {
     by_first_bytes(bytes)
 }
@@ -90,8 +96,17 @@ fn is_clean(bytes: &[u8]) -> bool
 ///
 /// `None` where they are anything else: nothing, white space, several tokens, a name of more than 255
 /// bytes, or bytes that no source may have, as a comment with a Unicode escape in it.
-#[tactic(auto, unfolding(crate::specs::Lexical::Front::token_kind))]
 pub fn text_kind(bytes: &[u8]) -> Option<TokenKind>
+    ensures same { result ≡ spec.token_kind bytes.now }
+    ensures some { IfSome result (λ kind. IsOneToken kind bytes.now) }
+    ensures only { (kind : TokenKind) → IsOneToken kind bytes.now → result ≡ Some kind }
+{
+    kind_of_whole(bytes)
+}
+
+/// The kind of what stands at the front, where nothing stands after it.
+#[tactic(auto, unfolding(crate::specs::Lexical::Front::token_kind))]
+fn kind_of_whole(bytes: &[u8]) -> Option<TokenKind>
     ensures { result ≡ spec.token_kind bytes.now }
 {
     if !is_clean(bytes) {

@@ -5,12 +5,9 @@ ghost use Rattle.std.specs.Str.{bytes_eq};
 ghost use Rattle.mol_base.specs.Lexical.Characters.{width, first};
 ghost use Rattle.mol_base.specs.Lexical.Names as spec;
 
-use crate::TokenKind;
 use crate::lexical::bytes::{byte_at, first_char, width};
 use crate::lexical::front::{Flaw, Front};
-
-/// The greatest number of bytes of an identifier.
-const LONGEST: usize = 255;
+use crate::{MAX_NAME_BYTES, TokenKind};
 
 /// The word at the front of bytes that begin with a character that may begin an identifier.
 #[tactic(auto, unfolding(crate::specs::Lexical::Names::name))]
@@ -18,7 +15,7 @@ pub fn name(bytes: &[u8]) -> Front
     ensures { result ≡ spec.name bytes.now }
 {
     let len = name_len(bytes);
-    if LONGEST < len {
+    if MAX_NAME_BYTES < len {
         Front::Wrong(Flaw::NameTooLong, 0)
     } else if len == 1 && byte_at(bytes, 0) == b'_' {
         Front::Wrong(Flaw::BadChar, 0)
@@ -149,14 +146,14 @@ const KEYWORDS: [&[u8]; 50] = [
 const WORD_LITERALS: [&[u8]; 3] = [b"true", b"false", b"null"];
 
 #[tactic(auto, unfolding(crate::specs::Lexical::Names::is_keyword, crate::specs::Lexical::Names::keywords))]
-fn is_keyword(name: &[u8]) -> bool
+pub fn is_keyword(name: &[u8]) -> bool
     ensures { result ≡ spec.is_keyword name.now }
 {
     is_one_of(name, &KEYWORDS)
 }
 
 #[tactic(auto, unfolding(crate::specs::Lexical::Names::is_word_literal, crate::specs::Lexical::Names::word_literals))]
-fn is_word_literal(name: &[u8]) -> bool
+pub fn is_word_literal(name: &[u8]) -> bool
     ensures { result ≡ spec.is_word_literal name.now }
 {
     is_one_of(name, &WORD_LITERALS)
