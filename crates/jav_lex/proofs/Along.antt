@@ -1,43 +1,39 @@
 -- How far a source is read.
-use Rattle.std.proofs.Common.{◌≡◌, ◌≢◌, ◌&&◌, ◌⊎◌, inl, inr, ℕ, ◌+◌, ◌-◌, ◌<◌, ◌≤◌, Bool, true, false, List, [], ◌∷◌, ◌++◌, take, drop, length, get_or, refl, ◌∙◌, ap, arith, add-zero, nat_eq}
-use Rattle.std.specs.Prelude.{nat_lt, slice_index, min, not}
+use Rattle.std.proofs.Common.{◌≡◌, ◌≢◌, ◌⊎◌, inl, inr, ℕ, ◌+◌, ◌-◌, ◌<◌, ◌≤◌, true, false, List, [], ◌∷◌, ◌++◌, take, drop, length, get_or, refl, ◌∙◌, ap, arith, add-zero}
+use Rattle.std.specs.Prelude.{nat_lt, slice_index, min}
 use Rattle.std.specs.Str.{IsUtf8}
 use Rattle.std.specs.Str.Lossy.{utf8_valid_len}
 use Rattle.std.proofs.lemmas.Bool.Decides.{nat_tests}
-use Rattle.std.proofs.lemmas.Bool.{cases_Bool, ltb-true, cond_both, and_parts, eqb-true}
+use Rattle.std.proofs.lemmas.Bool.{cases_Bool, ltb-true}
 use Rattle.std.proofs.lemmas.Grind.{common_steps}
 use Rattle.std.proofs.lemmas.List.{length-take-le, get_or-take, drop-take, length-drop, get_or-drop}
 use Rattle.std.proofs.lemmas.Str.{IsUtf8-take, IsUtf8-drop, IsCharBoundary-before_ascii, IsCharBoundary-from_take}
 use Rattle.mol_base.specs.Token.{Token}
-use Rattle.mol_base.specs.Lexical.Characters.{before_unicode_escape, pairs_next, first, is_space}
+use Rattle.mol_base.specs.Source.{IsTaken, Tiles}
+use Rattle.mol_base.specs.Lexical.Characters.{first, is_space}
+use Rattle.mol_base.specs.Lexical.Escapes.{IsBeforeEscape}
 use Rattle.mol_base.specs.Lexical.Front.{front, EndsText, IsWithin}
 use Rattle.mol_base.specs.declared.token_kind.TokenKind.{TokenKind}
 use Rattle.mol_base.specs.declared.lexical.front.Flaw.{Flaw}
 use Rattle.mol_base.specs.declared.lexical.front.Front.TheVariants.{Taken, Wrong}
-use Rattle.mol_base.proofs.Ends.{take-shorter, EndsText-ascii, get_or-past}
-use Rattle.jav_lex.specs.Source.{IsTaken, Tiles, seen, all_seen}
+use Rattle.mol_base.proofs.Ends.{take-shorter, EndsText-ascii}
+use Rattle.mol_base.proofs.Flawed.{IsFlaw-front}
+use Rattle.mol_base.proofs.Sources.{IsTaken-front}
+use Rattle.jav_lex.specs.Token.{seen, all_seen}
 use Rattle.jav_lex.specs.declared.token.Token as code
 use Rattle.jav_lex.specs.Fault.{HasFlaw, IsFirstFault, flawed, of_characters}
 use Rattle.jav_lex.proofs.Faults.{characters_first, flaw_first, flaw_alone, flaws_late}
 use Rattle.jav_lex.proofs.Tiling.{IsBlank-nil, Tiles-space, Tiles-token}
 
--- where a backslash begins a Unicode escape there is a backslash
-pub escape-at : (odd : Bool) (r : List ℕ) → before_unicode_escape odd r < length r → get_or r (before_unicode_escape odd r) 0 ≡ 92
-escape-at odd [] h = absurd (omega arith)
-escape-at odd (b ∷ bs) h =
-    cond_both (pairs_next odd b && nat_eq (first bs) 117) 0 (1 + before_unicode_escape (pairs_next odd b) bs) (λ x. x < length (b ∷ bs) → get_or (b ∷ bs) x 0 ≡ 92)
-    (λ is _. eqb-true b 92 (and_parts (not odd) (nat_eq b 92) (and_parts (pairs_next odd b) (nat_eq (first bs) 117) is).0).1)
-    (λ _ inside. rw (get_or-past b bs (before_unicode_escape (pairs_next odd b) bs)) (escape-at (pairs_next odd b) bs (omega arith))) h
-
 -- the bytes before the first fault of a character are UTF-8
-pub clean-text : (bytes : List ℕ) (e v : ℕ) → e ≡ before_unicode_escape false bytes → v ≤ length bytes → IsUtf8 (take v bytes) → IsUtf8 (take (min e v) bytes)
+pub clean-text : (bytes : List ℕ) (e v : ℕ) → IsBeforeEscape bytes e → v ≤ length bytes → IsUtf8 (take v bytes) → IsUtf8 (take (min e v) bytes)
 clean-text bytes e v escape room text = by_place (cases_Bool (nat_lt e v)) where
   by_place : ((nat_lt e v ≡ true) ⊎ (nat_lt e v ≡ false)) → IsUtf8 (take (min e v) bytes)
   by_place (inl is) =
       let less : e < v = ltb-true e v is in
       let least : min e v ≡ e = omega arith in
       let len : length (take v bytes) ≡ v = length-take-le v bytes room in
-      let byte : get_or bytes e 0 ≡ 92 = rw escape (escape-at false bytes (omega arith)) in
+      let byte : get_or bytes e 0 ≡ 92 = (escape.there (omega arith)).backslash in
       let here : get_or (take v bytes) e 0 ≡ get_or bytes e 0 = get_or-take v bytes e 0 less in
       let boundary = IsCharBoundary-before_ascii (take v bytes) e (omega arith) (omega arith) in
       rw (least, ← take-shorter e v bytes (omega arith) room) (IsUtf8-take (take v bytes) e text boundary)
@@ -84,11 +80,6 @@ Along-space bytes clean at ts along before room is =
       text = Along-step bytes clean at 1 before room (omega arith) along.text (EndsText-ascii (drop at bytes) 0 (omega arith) low);
     }
 
-pub taken-token : (bytes : List ℕ) (t : Token) (n : ℕ) → front (drop t.start bytes) ≡ Taken t.kind n → t.end ≡ t.start + n → 0 < n → t.end ≤ length bytes → t.text ≡ take (t.end - t.start) (drop t.start bytes) → IsTaken bytes t
-taken-token bytes t n taken end some inside text =
-    let count : t.end - t.start ≡ n = omega arith in
-    record { taken = rw count taken; some = omega arith; inside = inside; text = text }
-
 pub Along-token : (bytes : List ℕ) (clean n : ℕ) (ts : List Token) (t : Token) → Along bytes clean ts t.start → t.start < clean → clean ≤ length bytes → n ≤ clean - t.start
     → EndsText (drop t.start bytes) n → t.end ≡ t.start + n → IsTaken bytes t → Along bytes clean (ts ++ t ∷ []) t.end
 Along-token bytes clean n ts t along before room le ends end taken = record {
@@ -102,14 +93,14 @@ all_seen-more [] t = refl
 all_seen-more (u ∷ ts) t = ap (λ (xs : List Token). seen u ∷ xs) (all_seen-more ts t)
 
 -- Where tokens are read up to a place before the clean end, or up to that end: the first fault.
-module _ (bytes : List ℕ) (e v clean at : ℕ) (ts : List Token) (escape : e ≡ before_unicode_escape false bytes) (valid : v ≡ utf8_valid_len bytes) (least : clean ≡ min e v)
+module _ (bytes : List ℕ) (e v clean at : ℕ) (ts : List Token) (escape : IsBeforeEscape bytes e) (valid : v ≡ utf8_valid_len bytes) (least : clean ≡ min e v)
     (room : v ≤ length bytes) (along : Along bytes clean ts at) where
   -- a token goes on beyond it
   pub exit_taken : (kind : TokenKind) (n : ℕ) → at < clean → front (drop at bytes) ≡ Taken kind n → IsWithin (drop at bytes) (Taken kind n) → clean - at < n → IsFirstFault bytes (of_characters e v)
   exit_taken kind n before is within beyond =
       let len : length (drop at bytes) ≡ length bytes - at = length-drop at bytes in
-      let t : Token = record { kind = kind; text = take (at + n - at) (drop at bytes); start = at; end = at + n } in
-      let taken : IsTaken bytes t = taken-token bytes t n is refl within.0 (omega (arith, within.1)) refl in
+      let t : Token = record { kind = kind; text = take n (drop at bytes); start = at; end = at + n } in
+      let taken : IsTaken bytes t = IsTaken-front bytes t n is (omega arith) refl refl in
       let tiles = Tiles-token bytes 0 ts t along.tiles taken in
       characters_first bytes e v escape valid (omega (arith, within.1)) (λ flaw p has. omega (arith, flaws_late bytes (at + n) (ts ++ t ∷ []) tiles flaw p has))
 
@@ -122,7 +113,8 @@ module _ (bytes : List ℕ) (e v clean at : ℕ) (ts : List Token) (escape : e �
   -- a flaw is found before it
   pub exit_flaw : (flaw : Flaw) (k : ℕ) → at < clean → front (drop at bytes) ≡ Wrong flaw k → k < clean - at → IsFirstFault bytes (flawed flaw (at + k))
   exit_flaw flaw k before is within =
-      let has : HasFlaw bytes flaw (at + k) = record { tokens = ts; at = at; offset = k; tiles = along.tiles; inside = omega arith; wrong = is; found = refl } in
+      let len : length (drop at bytes) ≡ length bytes - at = length-drop at bytes in
+      let has : HasFlaw bytes flaw (at + k) = record { tokens = ts; at = at; offset = k; tiles = along.tiles; inside = omega arith; flawed = IsFlaw-front (drop at bytes) flaw k (omega arith) is; found = refl } in
       flaw_first bytes e v escape valid flaw (at + k) has (omega arith) (λ other p has'. omega (arith, flaw_alone bytes at k flaw ts along.tiles is other p has'))
 
   -- all up to it are read

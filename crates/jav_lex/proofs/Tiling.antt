@@ -10,14 +10,14 @@ use Rattle.mol_base.specs.Lexical.Front.{front}
 use Rattle.mol_base.specs.declared.token_kind.TokenKind.{TokenKind}
 use Rattle.mol_base.specs.declared.lexical.front.Flaw.{Flaw}
 use Rattle.mol_base.specs.declared.lexical.front.Front.TheVariants.{Space, Taken, Wrong}
-use Rattle.jav_lex.specs.Source.{IsBlank, IsTaken, Tiles}
+use Rattle.mol_base.specs.Source.{IsBlank, IsTaken, Tiles}
+use Rattle.mol_base.proofs.Sources.{front-space, front-IsTaken}
 
--- white space is at the front where the first byte is white space
-pub front-space : (bytes : List ℕ) (i : ℕ) → is_space (slice_index bytes i) ≡ true → front (drop i bytes) ≡ Space
-unfolding front
-front-space bytes i is =
+-- white space is at the front of the rest of a source where it stands
+front-space_at : (bytes : List ℕ) (i : ℕ) → is_space (slice_index bytes i) ≡ true → front (drop i bytes) ≡ Space
+front-space_at bytes i is =
     let here : first (drop i bytes) ≡ slice_index bytes i = get_or-drop i bytes 0 0 ∙ ap (λ (n : ℕ). slice_index bytes n) (add-zero i) in
-    rw (here, is)
+    front-space (drop i bytes) (rw here is)
 
 pub IsBlank-nil : (bytes : List ℕ) (at : ℕ) → at ≤ length bytes → IsBlank bytes at at
 IsBlank-nil bytes at room = record { ordered = omega arith; inside = room; blank = λ i low high. absurd (omega arith) }
@@ -51,36 +51,36 @@ Tiles-ordered bytes from at (t ∷ ts) tiles = omega (arith, tiles.0.ordered, ti
 no_token_inside : (bytes : List ℕ) (from to at n : ℕ) (kind : TokenKind) → IsBlank bytes from to → from ≤ at → front (drop at bytes) ≡ Taken kind n → to ≤ at
 no_token_inside bytes from to at n kind blank low taken = by_place (cases_Bool (nat_lt at to)) where
   by_place : ((nat_lt at to ≡ true) ⊎ (nat_lt at to ≡ false)) → to ≤ at
-  by_place (inl before) = let space = front-space bytes at (blank.blank at low (ltb-true at to before)) in absurd cc
+  by_place (inl before) = let space = front-space_at bytes at (blank.blank at low (ltb-true at to before)) in absurd cc
   by_place (inr after) = grind (arith, nat_tests, after)
 
 no_flaw_inside : (bytes : List ℕ) (from to at n : ℕ) (flaw : Flaw) → IsBlank bytes from to → from ≤ at → front (drop at bytes) ≡ Wrong flaw n → to ≤ at
 no_flaw_inside bytes from to at n flaw blank low wrong = by_place (cases_Bool (nat_lt at to)) where
   by_place : ((nat_lt at to ≡ true) ⊎ (nat_lt at to ≡ false)) → to ≤ at
-  by_place (inl before) = let space = front-space bytes at (blank.blank at low (ltb-true at to before)) in absurd cc
+  by_place (inl before) = let space = front-space_at bytes at (blank.blank at low (ltb-true at to before)) in absurd cc
   by_place (inr after) = grind (arith, nat_tests, after)
 
 -- the same, where a token is at the end of the white space
 no_flaw_at : (bytes : List ℕ) (from at : ℕ) (t : Token) (n : ℕ) (flaw : Flaw) → IsBlank bytes from t.start → IsTaken bytes t → IsBlank bytes from at → front (drop at bytes) ≡ Wrong flaw n → ⊥
 no_flaw_at bytes from at t n flaw before taken blank wrong =
     let low : t.start ≤ at = no_flaw_inside bytes from t.start at n flaw before blank.ordered wrong in
-    let high : at ≤ t.start = no_token_inside bytes from at t.start (t.end - t.start) t.kind blank before.ordered taken.taken in
+    let high : at ≤ t.start = no_token_inside bytes from at t.start (t.end - t.start) t.kind blank before.ordered (front-IsTaken bytes t taken) in
     let same : at ≡ t.start = omega arith in
     let here : front (drop t.start bytes) ≡ Wrong flaw n = rw same at wrong in
-    let there = taken.taken in
+    let there = front-IsTaken bytes t taken in
     cc
 
 same_start : (bytes : List ℕ) (from : ℕ) (t u : Token) → IsBlank bytes from t.start → IsTaken bytes t → IsBlank bytes from u.start → IsTaken bytes u → t.start ≡ u.start
 same_start bytes from t u before taken before' taken' =
-    let low : t.start ≤ u.start = no_token_inside bytes from t.start u.start (u.end - u.start) u.kind before before'.ordered taken'.taken in
-    let high : u.start ≤ t.start = no_token_inside bytes from u.start t.start (t.end - t.start) t.kind before' before.ordered taken.taken in
+    let low : t.start ≤ u.start = no_token_inside bytes from t.start u.start (u.end - u.start) u.kind before before'.ordered (front-IsTaken bytes u taken') in
+    let high : u.start ≤ t.start = no_token_inside bytes from u.start t.start (t.end - t.start) t.kind before' before.ordered (front-IsTaken bytes t taken) in
     omega arith
 
 -- two tokens that start at one place are one
 same_token : (bytes : List ℕ) (t u : Token) → t.start ≡ u.start → IsTaken bytes t → IsTaken bytes u → t ≡ u
 same_token bytes t u same taken taken' =
-    let there : front (drop t.start bytes) ≡ Taken u.kind (u.end - u.start) = rw same taken'.taken in
-    let here : front (drop t.start bytes) ≡ Taken t.kind (t.end - t.start) = taken.taken in
+    let there : front (drop t.start bytes) ≡ Taken u.kind (u.end - u.start) = rw same (front-IsTaken bytes u taken') in
+    let here : front (drop t.start bytes) ≡ Taken t.kind (t.end - t.start) = front-IsTaken bytes t taken in
     let kind : t.kind ≡ u.kind = cc in
     let len : t.end - t.start ≡ u.end - u.start = cc in
     let end : t.end ≡ u.end = omega (arith, taken.some, taken'.some) in
@@ -94,7 +94,7 @@ same_token bytes t u same taken taken' =
 pub no_flaw_before : (bytes : List ℕ) (from to at n : ℕ) (flaw : Flaw) (ts us : List Token) → Tiles bytes from ts to → Tiles bytes from us at → front (drop at bytes) ≡ Wrong flaw n → to ≤ at
 no_flaw_before bytes from to at n flaw [] [] tiles tiles' wrong = no_flaw_inside bytes from to at n flaw tiles tiles'.ordered wrong
 no_flaw_before bytes from to at n flaw [] (u ∷ us) tiles tiles' wrong =
-    let low : to ≤ u.start = no_token_inside bytes from to u.start (u.end - u.start) u.kind tiles tiles'.0.ordered tiles'.1.taken in
+    let low : to ≤ u.start = no_token_inside bytes from to u.start (u.end - u.start) u.kind tiles tiles'.0.ordered (front-IsTaken bytes u tiles'.1) in
     omega (arith, tiles'.1.some, Tiles-ordered bytes u.end at us tiles'.2)
 no_flaw_before bytes from to at n flaw (t ∷ ts) [] tiles tiles' wrong = absurd (no_flaw_at bytes from at t n flaw tiles.0 tiles.1 tiles' wrong)
 no_flaw_before bytes from to at n flaw (t ∷ ts) (u ∷ us) tiles tiles' wrong =
@@ -105,8 +105,8 @@ no_flaw_before bytes from to at n flaw (t ∷ ts) (u ∷ us) tiles tiles' wrong 
 -- a source is tiled in one way at most
 pub one_tiling : (bytes : List ℕ) (from : ℕ) (ts us : List Token) → Tiles bytes from ts (length bytes) → Tiles bytes from us (length bytes) → ts ≡ us
 one_tiling bytes from [] [] tiles tiles' = refl
-one_tiling bytes from [] (u ∷ us) tiles tiles' = absurd (omega (arith, no_token_inside bytes from (length bytes) u.start (u.end - u.start) u.kind tiles tiles'.0.ordered tiles'.1.taken, tiles'.1.some, tiles'.1.inside))
-one_tiling bytes from (t ∷ ts) [] tiles tiles' = absurd (omega (arith, no_token_inside bytes from (length bytes) t.start (t.end - t.start) t.kind tiles' tiles.0.ordered tiles.1.taken, tiles.1.some, tiles.1.inside))
+one_tiling bytes from [] (u ∷ us) tiles tiles' = absurd (omega (arith, no_token_inside bytes from (length bytes) u.start (u.end - u.start) u.kind tiles tiles'.0.ordered (front-IsTaken bytes u tiles'.1), tiles'.1.some, tiles'.1.inside))
+one_tiling bytes from (t ∷ ts) [] tiles tiles' = absurd (omega (arith, no_token_inside bytes from (length bytes) t.start (t.end - t.start) t.kind tiles' tiles.0.ordered (front-IsTaken bytes t tiles.1), tiles.1.some, tiles.1.inside))
 one_tiling bytes from (t ∷ ts) (u ∷ us) tiles tiles' =
     let same = same_token bytes t u (same_start bytes from t u tiles.0 tiles.1 tiles'.0 tiles'.1) tiles.1 tiles'.1 in
     let ends : u.end ≡ t.end = ap (λ (x : Token). x.end) (sym same) in

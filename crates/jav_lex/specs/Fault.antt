@@ -2,12 +2,11 @@
 use Rattle.std.specs.Prelude.{◌≡◌, ℕ, ◌+◌, ◌<◌, ◌≤◌, List, length, drop, Bool, true, false, IsTrue, nat_lt, if◌then◌else◌}
 use Rattle.std.specs.Str.Lossy.{utf8_valid_len}
 use Rattle.mol_base.specs.Token.{Token}
-use Rattle.mol_base.specs.Lexical.Characters.{before_unicode_escape}
-use Rattle.mol_base.specs.Lexical.Front.{front}
+use Rattle.mol_base.specs.Source.{Tiles}
+use Rattle.mol_base.specs.Lexical.Escapes.{IsBeforeEscape}
+use Rattle.mol_base.specs.Lexical.Flaws.{IsFlaw}
 use Rattle.mol_base.specs.declared.lexical.front.Flaw.{Flaw}
 use Rattle.mol_base.specs.declared.lexical.front.Flaw.TheVariants as flaws
-use Rattle.mol_base.specs.declared.lexical.front.Front.TheVariants.{Wrong}
-use Rattle.jav_lex.specs.Source.{Tiles}
 use Rattle.jav_lex.specs.declared.fault.LexFault.{LexFault}
 use Rattle.jav_lex.specs.declared.fault.LexFault.TheVariants.{NotUtf8, BadChar, OpenString, OpenComment, BadEscape, UnicodeEscape, FloatLiteral, BadNumber, TextBlock, NameTooLong, OutOfMemory}
 
@@ -19,7 +18,7 @@ pub record HasFlaw (bytes : List ℕ) (flaw : Flaw) (place : ℕ) : Type 0 where
   pub offset : ℕ
   pub tiles : Tiles bytes 0 tokens at
   pub inside : at < length bytes
-  pub wrong : front (drop at bytes) ≡ Wrong flaw offset
+  pub flawed : IsFlaw flaw offset (drop at bytes)
   pub found : place ≡ at + offset
 
 -- a fault is in the source at its place
@@ -27,7 +26,7 @@ abbrev pub IsFault : List ℕ → LexFault → Type 0
 -- the ill-formed sequence of least place begins there
 IsFault bytes (NotUtf8 at) = (at ≡ utf8_valid_len bytes) × (at < length bytes)
 -- the first Unicode escape begins there
-IsFault bytes (UnicodeEscape at) = (at ≡ before_unicode_escape false bytes) × (at < length bytes)
+IsFault bytes (UnicodeEscape at) = IsBeforeEscape bytes at × (at < length bytes)
 IsFault bytes (BadChar at) = HasFlaw bytes flaws.BadChar at
 IsFault bytes (OpenString at) = HasFlaw bytes flaws.OpenString at
 IsFault bytes (OpenComment at) = HasFlaw bytes flaws.OpenComment at

@@ -8,6 +8,3 @@ mod token;
 pub use fault::LexFault;
 pub use scan::lex;
 pub use token::Token;
-
-#[cfg(test)]
-mod tests;

@@ -2,9 +2,11 @@
 ghost use Rattle.std.specs.Prelude.{List as Items, ◌≡◌, ◌≢◌, ◌+◌, ◌-◌, ◌<◌, ◌≤◌, ◌^◌, length, take, drop, IfOk, IfErr, nat_lt};
 ghost use Rattle.std.specs.Str.{IsUtf8};
 ghost use Rattle.std.specs.Str.Lossy.{utf8_valid_len};
+ghost use Rattle.mol_base.specs.Source.{IsSource};
 ghost use Rattle.mol_base.specs.Token as token;
 ghost use Rattle.mol_base.specs.Lexical.Front.{front, IsWithin};
-ghost use Rattle.jav_lex.specs.Source.{seen, all_seen, IsSource};
+ghost use Rattle.mol_base.specs.Lexical.Tokens.{AreTokens};
+ghost use Rattle.jav_lex.specs.Token.{seen, all_seen};
 ghost use Rattle.jav_lex.specs.Fault.{IsFirstFault, of_characters as fault_of_characters};
 
 use crate::{LexFault, Token};
@@ -80,8 +82,9 @@ fn of_characters(escape: usize, text: usize) -> LexFault
 /// another at the same place.
 pub fn lex(alloc: Global, bytes: &[u8]) -> Result<List<Token>, LexFault>
     requires { length bytes.now < 2 ^ 32 }
-    // the tokens are those of the source, and no others are
+    // the tokens are those of the source, each is one by its form, and no others are
     ensures ok { IfOk result (λ tokens. IsSource bytes.now (all_seen tokens)) }
+    ensures tokens { IfOk result (λ tokens. AreTokens (all_seen tokens)) }
     ensures only { IfOk result (λ tokens. (others : Items token.Token) → IsSource bytes.now others → others ≡ all_seen tokens) }
     // the fault is the first, no other is, and no tokens are those of the source
     ensures err { IfErr result (λ fault. fault ≢ LexFault.OutOfMemory → IsFirstFault bytes.now fault) }

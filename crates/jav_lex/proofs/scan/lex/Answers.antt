@@ -2,11 +2,13 @@ use Rattle.std.proofs.Common.{◌≡◌, ℕ, List, [], ◌∷◌, ◌++◌, ◌
 use Rattle.std.specs.Str.{IsUtf8}
 use Rattle.std.proofs.lemmas.List.{length-drop}
 use Rattle.mol_base.specs.Token.{Token}
-use Rattle.jav_lex.specs.Source.{all_seen, IsTaken, Tiles}
+use Rattle.mol_base.specs.Source.{IsTaken, Tiles}
+use Rattle.mol_base.proofs.Sources.{IsTaken-front, AreTokens-Tiles}
+use Rattle.jav_lex.specs.Token.{all_seen}
 use Rattle.jav_lex.specs.Fault.{IsFirstFault}
 use Rattle.jav_lex.specs.declared.fault.LexFault.{LexFault}
 use Rattle.jav_lex.proofs.Alone.{one_first}
-use Rattle.jav_lex.proofs.Along.{Along, Along-start, Along-space, Along-token, taken-token, all_seen-more, clean-text, exit_taken, exit_late, exit_flaw, exit_end}
+use Rattle.jav_lex.proofs.Along.{Along, Along-start, Along-space, Along-token, all_seen-more, clean-text, exit_taken, exit_late, exit_flaw, exit_end}
 use Rattle.jav_lex.proofs.Faults.{no_fault}
 use Rattle.jav_lex.proofs.Tiling.{one_tiling}
 use Rattle.jav_lex.proofs.scan.lex.Goals as goal
@@ -14,7 +16,7 @@ use Rattle.jav_lex.proofs.scan.lex.Goals as goal
 pub loop-at-init : goal.loop-at-init
 loop-at-init c =
     let bytes : List ℕ = c.args.bytes.now in
-    let text = clean-text bytes _ _ c.before_unicode_escape-escape.ensures.same c.text_len-text.ensures.within c.text_len-text.ensures.front in
+    let text = clean-text bytes _ _ c.before_unicode_escape-escape.ensures.first c.text_len-text.ensures.within c.text_len-text.ensures.front in
     rw (c.new-tokens.ensures) (Along-start bytes c.min-clean.result (rw c.min-clean.ensures text))
 
 pub loop-at-preserved-in-Space : goal.loop-at-preserved-in-Space
@@ -26,7 +28,7 @@ pub returns-then-clean-at-clause-err : goal.returns-then-clean-at-clause-err
 returns-then-clean-at-clause-err c =
     let P : LexFault → Type 0 = IsFirstFault c.args.bytes.now in
     λ _. subst P (sym c.of_characters.ensures)
-    (exit_taken c.args.bytes.now _ _ c.min-clean.result c.loop-at.at (all_seen c.loop-at.tokens) c.before_unicode_escape-escape.ensures.same c.text_len-text.ensures.len c.min-clean.ensures c.text_len-text.ensures.within c.loop-at.invariant
+    (exit_taken c.args.bytes.now _ _ c.min-clean.result c.loop-at.at (all_seen c.loop-at.tokens) c.before_unicode_escape-escape.ensures.first c.text_len-text.ensures.len c.min-clean.ensures c.text_len-text.ensures.within c.loop-at.invariant
     c.in-Taken.kind c.in-Taken.len c.loop-at-test.true (sym c.in-Taken.ensures.same) c.in-Taken.ensures.within c.if-clean-at.true)
 
 pub returns-then-clean-at-clause-one : goal.returns-then-clean-at-clause-one
@@ -52,7 +54,8 @@ loop-at-preserved c =
     let len : length (drop at bytes) ≡ length bytes - at = length-drop at bytes in
     let t : Token = record { kind = c.in-Taken.kind; text = take (at + n - at) (drop at bytes); start = at; end = at + n } in
     let within = c.in-Taken.ensures.within in
-    let taken : IsTaken bytes t = taken-token bytes t n (sym c.in-Taken.ensures.same) refl within.0 (omega (arith, within.1)) refl in
+    let count : at + n - at ≡ n = omega arith in
+    let taken : IsTaken bytes t = IsTaken-front bytes t n (sym c.in-Taken.ensures.same) (omega arith) refl (ap (λ (k : ℕ). take k (drop at bytes)) count) in
     let along = Along-token bytes c.min-clean.result n (all_seen c.loop-at.tokens) t c.loop-at.invariant c.loop-at-test.true (omega arith) c.if-clean-at.false within.2 refl taken in
     let grown : all_seen c.add.new.self ≡ all_seen c.loop-at.tokens ++ t ∷ [] =
     ap all_seen c.in_ok-add-in-Taken.ensures.ok ∙ all_seen-more c.loop-at.tokens c.in_ok-token-in-Taken.token
@@ -64,7 +67,7 @@ pub returns-then-clean-at-2-clause-err : goal.returns-then-clean-at-2-clause-err
 returns-then-clean-at-2-clause-err c =
     let P : LexFault → Type 0 = IsFirstFault c.args.bytes.now in
     λ _. subst P (sym c.of_characters-then-clean-at-2.ensures)
-    (exit_late c.args.bytes.now _ _ c.min-clean.result c.loop-at.at (all_seen c.loop-at.tokens) c.before_unicode_escape-escape.ensures.same c.text_len-text.ensures.len c.min-clean.ensures c.text_len-text.ensures.within c.loop-at.invariant
+    (exit_late c.args.bytes.now _ _ c.min-clean.result c.loop-at.at (all_seen c.loop-at.tokens) c.before_unicode_escape-escape.ensures.first c.text_len-text.ensures.len c.min-clean.ensures c.text_len-text.ensures.within c.loop-at.invariant
     c.in-Wrong.flaw c.in-Wrong.offset c.loop-at-test.true (sym c.in-Wrong.ensures.same) c.in-Wrong.ensures.within c.if-clean-at-2.true)
 
 pub returns-then-clean-at-2-clause-one : goal.returns-then-clean-at-2-clause-one
@@ -77,7 +80,7 @@ pub returns-in-Wrong-clause-err : goal.returns-in-Wrong-clause-err
 returns-in-Wrong-clause-err c =
     let P : LexFault → Type 0 = IsFirstFault c.args.bytes.now in
     λ _. subst P (sym c.of_flaw.ensures)
-    (exit_flaw c.args.bytes.now _ _ c.min-clean.result c.loop-at.at (all_seen c.loop-at.tokens) c.before_unicode_escape-escape.ensures.same c.text_len-text.ensures.len c.min-clean.ensures c.text_len-text.ensures.within c.loop-at.invariant
+    (exit_flaw c.args.bytes.now _ _ c.min-clean.result c.loop-at.at (all_seen c.loop-at.tokens) c.before_unicode_escape-escape.ensures.first c.text_len-text.ensures.len c.min-clean.ensures c.text_len-text.ensures.within c.loop-at.invariant
     c.in-Wrong.flaw c.in-Wrong.offset c.loop-at-test.true (sym c.in-Wrong.ensures.same) c.if-clean-at-2.false)
 
 pub returns-in-Wrong-clause-one : goal.returns-in-Wrong-clause-one
@@ -85,6 +88,9 @@ returns-in-Wrong-clause-one c = λ memory other is. one_first c.args.bytes.now o
 
 pub returns-in-Wrong-clause-none : goal.returns-in-Wrong-clause-none
 returns-in-Wrong-clause-none c = λ memory others source. no_fault c.args.bytes.now others source _ (returns-in-Wrong-clause-err c memory).there
+
+pub returns-then-clean-bytes-clause-tokens : goal.returns-then-clean-bytes-clause-tokens
+returns-then-clean-bytes-clause-tokens c = AreTokens-Tiles c.args.bytes.now 0 c.loop-at.at (all_seen c.loop-at.tokens) c.loop-at.invariant.tiles
 
 pub returns-then-clean-bytes-clause-only : goal.returns-then-clean-bytes-clause-only
 returns-then-clean-bytes-clause-only c = λ others source.
@@ -97,7 +103,7 @@ pub returns-else-clean-bytes-clause-err : goal.returns-else-clean-bytes-clause-e
 returns-else-clean-bytes-clause-err c =
     let P : LexFault → Type 0 = IsFirstFault c.args.bytes.now in
     λ _. subst P (sym c.of_characters-else-clean-bytes.ensures)
-    (exit_end c.args.bytes.now _ _ c.min-clean.result c.loop-at.at (all_seen c.loop-at.tokens) c.before_unicode_escape-escape.ensures.same c.text_len-text.ensures.len c.min-clean.ensures c.text_len-text.ensures.within c.loop-at.invariant c.loop-at-test.false c.if-clean-bytes.false)
+    (exit_end c.args.bytes.now _ _ c.min-clean.result c.loop-at.at (all_seen c.loop-at.tokens) c.before_unicode_escape-escape.ensures.first c.text_len-text.ensures.len c.min-clean.ensures c.text_len-text.ensures.within c.loop-at.invariant c.loop-at-test.false c.if-clean-bytes.false)
 
 pub returns-else-clean-bytes-clause-one : goal.returns-else-clean-bytes-clause-one
 returns-else-clean-bytes-clause-one c = λ memory other is. one_first c.args.bytes.now other _ is (returns-else-clean-bytes-clause-err c memory)

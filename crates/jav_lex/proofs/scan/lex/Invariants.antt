@@ -1,5 +1,5 @@
 use Rattle.std.proofs.Common.{◌-◌}
-use Rattle.jav_lex.specs.Source.{all_seen}
+use Rattle.jav_lex.specs.Token.{all_seen}
 use Rattle.jav_lex.proofs.Along.{Along}
 use Rattle.jav_lex.proofs.scan.lex.Given as goal
 
