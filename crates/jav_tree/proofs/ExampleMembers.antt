@@ -54,7 +54,7 @@ abstract_one = mem.abstract_method token.none (words.keyword refl refl words.non
 
 -- `C() { super(); ; }`, in the class C
 constructor_of_class : Declared 255 (Some (codes "C")) 2
-    (member.Ctor (record { front = []; at = 0; words = []; params = []; block = block_of (st.bare 6 (stmt.SuperInit []) ∷ st.bare 15 stmt.Empty ∷ []) [] }) ∷ [])
+    (member.Ctor (record { front = []; at = 0; words = []; params = []; block = block_of (st.stmt_at 6 (stmt.SuperInit []) ∷ st.stmt_at 15 stmt.Empty ∷ []) [] }) ∷ [])
     (word "C" 0 ∷ sym "(" 1 ∷ sym ")" 2 ∷ sym "{" 4 ∷ key "super" 6 ∷ sym "(" 11 ∷ sym ")" 12 ∷ sym ";" 13 ∷ sym ";" 15 ∷ sym "}" 17 ∷ [])
 constructor_of_class = mem.constructor_of token.none words.none (record { known = refl; once = refl; one_access = refl }) (named "C" 0) refl
     (mem.none (symbol "(" 1) (symbol ")" 2)) token.none
@@ -82,7 +82,7 @@ whole_file : SourceFile 255 0
     ∷ sym "}" 83 ∷ note "/*u*/" 85 ∷ [])
 whole_file = unit.source (token.comment (comment "/*h*/" 0) token.none) (keyword "package" 6) (unit.named (type.name (named "k" 14)) (symbol ";" 15))
     (token.comment (comment "/*a*/" 17) token.none)
-    (unit.import (keyword "import" 23) (unit.named (type.dotted (named "k" 30) (symbol "." 31) (type.name (named "B" 32))) (symbol ";" 33))
+    (unit.import (keyword "import" 23) (unit.named (type.dotted (type.name (named "k" 30)) (symbol "." 31) (named "B" 32)) (symbol ";" 33))
     (token.comment (comment "/*b*/" 35) token.none) unit.none)
     (record { same_names = IsPermutation-refl _; ascending = search rules })
     (words.keyword refl refl words.none) (record { known = refl; once = refl; one_access = refl }) (keyword "class" 48) (named "C" 54)

@@ -19,9 +19,9 @@ use Rattle.jav_tree.specs.declared.unit.Member.{Member}
 use Rattle.jav_tree.specs.declared.unit.Unit.{Unit as Source}
 use Rattle.jav_tree.specs.Blocks.{block_of}
 use Rattle.jav_tree.specs.Height.{above, tallest, expr_height, maybe_height, declarator_height, let_height, start_height, else_height, stmt_node_height, block_height, stmt_height, member_height, unit_height, else_step, stmt_node_step, block_step, stmt_step}
-use Rattle.jav_tree.specs.Statements.{Variable, Variables, Declaration, MaybeExpression, Steps, Start, SuperStart, Plain, Choice, Otherwise, Branch, BlockOf, Single, Statements, ConstructorBlock, fronted, tailed, with_front, bare}
+use Rattle.jav_tree.specs.Statements.{Variable, Variables, Declaration, MaybeExpression, Update, Start, SuperStart, Plain, Choice, Otherwise, Branch, Enclosed, BlockOf, Single, Statements, ConstructorBlock, fronted, tailed, with_front}
 use Rattle.jav_tree.specs.Statements as st
-use Rattle.jav_tree.specs.Members.{Declared, Body, fields_of, further_fields}
+use Rattle.jav_tree.specs.Members.{Declared, Body, field_of, fields_of}
 use Rattle.jav_tree.specs.Members as mem
 use Rattle.jav_tree.specs.Units.{SourceFile}
 use Rattle.jav_tree.specs.Units as unit
@@ -101,38 +101,38 @@ three_above h i j k l m e f g = rw (e, f, g) (omega arith)
 four_above : (a b c d h j k i : ℕ) → a ≡ capped h → b ≡ capped j → c ≡ capped k → d ≡ capped i → above (max a (max b (max c d))) ≡ capped (suc (max h (max j (max k i))))
 four_above a b c d h j k i e f g p = ap (λ x. above (max a (max b x))) (highest_of c d k i g p) ∙ three_above _ _ _ _ _ _ e f refl
 
-height_of_variable : {most h at : ℕ} {d : Declarator} {ts : List Token} → Variable most h at d ts → declarator_height d ≡ capped h
+height_of_variable : {limit h : ℕ} {d : ℕ × Declarator} {ts : List Token} → Variable limit h d ts → declarator_height d.1 ≡ capped h
 height_of_variable (st.alone _) = refl
 height_of_variable (st.valued _ _ p) = height_of_init p
 
-height_of_variables : {most h : ℕ} {places : List ℕ} {ds : List Declarator} {ts : List Token} → Variables most h places ds ts → tallest (map declarator_height ds) ≡ capped h
+height_of_variables : {limit h : ℕ} {ds : List (ℕ × Declarator)} {ts : List Token} → Variables limit h ds ts → tallest (map declarator_height (map (λ d. d.1) ds)) ≡ capped h
 height_of_variables (st.last p) = only_one _ _ (height_of_variable p)
 height_of_variables (st.more p _ q) = highest_of _ _ _ _ (height_of_variable p) (height_of_variables q)
 
-height_of_declaration : {most h : ℕ} {l : Let} {ts : List Token} → Declaration most h l ts → let_height l ≡ capped h
+height_of_declaration : {limit h : ℕ} {l : Let} {ts : List Token} → Declaration limit h l ts → let_height l ≡ capped h
 height_of_declaration (st.declaration _ _ p) = height_of_variables p
 
-height_of_maybe : {most h : ℕ} {e : Option Expr} {ts : List Token} → MaybeExpression most h e ts → maybe_height e ≡ capped h
+height_of_maybe : {limit h : ℕ} {e : Option Expr} {ts : List Token} → MaybeExpression limit h e ts → maybe_height e ≡ capped h
 height_of_maybe st.no = refl
 height_of_maybe (st.yes p) = height_of_expression p
 
-height_of_steps : {most h : ℕ} {es : List Expr} {ts : List Token} → Steps most h es ts → tallest (map expr_height es) ≡ capped h
-height_of_steps st.none = refl
-height_of_steps (st.some p _) = height_of_listed p
+height_of_update : {limit h : ℕ} {es : List Expr} {ts : List Token} → Update limit h es ts → tallest (map expr_height es) ≡ capped h
+height_of_update st.none = refl
+height_of_update (st.some p _) = height_of_listed p
 
-height_of_start : {most h : ℕ} {s : ForStart} {ts : List Token} → Start most h s ts → start_height s ≡ capped h
+height_of_start : {limit h : ℕ} {s : ForStart} {ts : List Token} → Start limit h s ts → start_height s ≡ capped h
 height_of_start st.none = refl
 height_of_start (st.variables p) = height_of_declaration p
 height_of_start (st.expressions p _) = height_of_listed p
 
-height_of_super : {most h : ℕ} {n : StmtNode} {ts : List Token} → SuperStart most h n ts → stmt_node_height n ≡ capped h
+height_of_super : {limit h : ℕ} {n : StmtNode} {ts : List Token} → SuperStart limit h n ts → stmt_node_height n ≡ capped h
 height_of_super (st.super_start _ p _) = of-StmtNode-SuperInit _ ∙ one_above _ _ (height_of_arguments p)
 
 mutual
-  height_of_plain : {most h : ℕ} {is_open : Bool} {n : StmtNode} {ts : List Token} → Plain most h is_open n ts → stmt_node_height n ≡ capped h
+  height_of_plain : {limit h : ℕ} {is_open : Bool} {n : StmtNode} {ts : List Token} → Plain limit h is_open n ts → stmt_node_height n ≡ capped h
   height_of_plain (st.expression p _ _) = of-StmtNode-Do _ ∙ one_above _ _ (height_of_expression p)
   height_of_plain (st.while _ _ p _ q) = of-StmtNode-While _ _ ∙ two_above _ _ _ _ (height_of_expression p) (height_of_branch q)
-  height_of_plain (st.for _ _ p _ q _ r _ s) = of-StmtNode-For _ _ _ _ ∙ four_above _ _ _ _ _ _ _ _ (height_of_start p) (height_of_maybe q) (height_of_steps r) (height_of_branch s)
+  height_of_plain (st.for _ _ p _ q _ r _ s) = of-StmtNode-For _ _ _ _ ∙ four_above _ _ _ _ _ _ _ _ (height_of_start p) (height_of_maybe q) (height_of_update r) (height_of_branch s)
   height_of_plain (st.each _ _ _ _ _ _ p _ q) = of-StmtNode-Each _ _ _ _ _ ∙ two_above _ _ _ _ (height_of_expression p) (height_of_branch q)
   height_of_plain (st.return _ p _) = of-StmtNode-Return _ ∙ one_above _ _ (height_of_maybe p)
   height_of_plain (st.throw _ p _) = of-StmtNode-Throw _ ∙ one_above _ _ (height_of_expression p)
@@ -140,56 +140,58 @@ mutual
   height_of_plain (st.continue _ _) = of-StmtNode-Continue
   height_of_plain (st.nothing _) = of-StmtNode-Empty
 
-  height_of_choice : {most h : ℕ} {is_open : Bool} {n : StmtNode} {ts : List Token} → Choice most h is_open n ts → stmt_node_height n ≡ capped h
+  height_of_choice : {limit h : ℕ} {is_open : Bool} {n : StmtNode} {ts : List Token} → Choice limit h is_open n ts → stmt_node_height n ≡ capped h
   height_of_choice (st.short {e} {items} {tail} _ _ p _ q) = of-StmtNode-If e (block_of items tail) otherwise.None ∙ ap (λ z. above (max (expr_height e) (max (block_height (block_of items tail)) z))) of-Else-None
       ∙ if_above _ _ _ _ (height_of_expression p) (height_of_branch q)
   height_of_choice (st.long {e} {items} {tail} {comments} {other} _ _ p _ q _ _ r) = of-StmtNode-If e (block_of items (tail ++ comments)) other
       ∙ three_above _ _ _ _ _ _ (height_of_expression p) (of-block items (tail ++ comments) ∙ sym (of-block items tail) ∙ height_of_branch q) (height_of_otherwise r)
 
-  height_of_otherwise : {most h : ℕ} {is_open : Bool} {other : Else} {ts : List Token} → Otherwise most h is_open other ts → else_height other ≡ capped h
+  height_of_otherwise : {limit h : ℕ} {is_open : Bool} {other : Else} {ts : List Token} → Otherwise limit h is_open other ts → else_height other ≡ capped h
   height_of_otherwise (st.else_if {n} p) = of-Else-If _ ∙ of-stmt [] _ n ∙ height_of_choice p
-  height_of_otherwise (st.else_block {items} {tail} {comments} _ p) = of-Else-Block _ ∙ front_block comments tail (tailed comments items tail) items (height_of_block p)
-  height_of_otherwise (st.else_plain {n} {comments} _ p) = of-Else-Block _ ∙ one_block comments [] _ n _ (height_of_plain p)
+  height_of_otherwise (st.else_enclosed p) = of-Else-Block _ ∙ height_of_enclosed p
 
-  height_of_branch : {most h : ℕ} {is_open : Bool} {items : List Stmt} {tail : List (List ℕ)} {ts : List Token} → Branch most h is_open items tail ts → block_height (block_of items tail) ≡ capped h
-  height_of_branch (st.block_branch {items} {tail} {comments} _ p) = front_block comments tail (tailed comments items tail) items (height_of_block p)
-  height_of_branch (st.plain_branch {n} {comments} _ p) = one_block comments [] _ n _ (height_of_plain p)
+  height_of_branch : {limit h : ℕ} {is_open : Bool} {items : List Stmt} {tail : List (List ℕ)} {ts : List Token} → Branch limit h is_open items tail ts → block_height (block_of items tail) ≡ capped h
+  height_of_branch (st.enclosed_branch p) = height_of_enclosed p
   height_of_branch (st.choice_branch {n} {comments} _ p) = one_block comments [] _ n _ (height_of_choice p)
 
-  pub height_of_block : {most h : ℕ} {items : List Stmt} {tail : List (List ℕ)} {ts : List Token} → BlockOf most h items tail ts → block_height (block_of items tail) ≡ capped h
+  height_of_enclosed : {limit h : ℕ} {is_open : Bool} {items : List Stmt} {tail : List (List ℕ)} {ts : List Token} → Enclosed limit h is_open items tail ts → block_height (block_of items tail) ≡ capped h
+  height_of_enclosed (st.enclosed_block {items} {tail} {comments} _ p) = front_block comments tail (tailed comments items tail) items (height_of_block p)
+  height_of_enclosed (st.enclosed_plain {n} {comments} _ p) = one_block comments [] _ n _ (height_of_plain p)
+
+  pub height_of_block : {limit h : ℕ} {items : List Stmt} {tail : List (List ℕ)} {ts : List Token} → BlockOf limit h items tail ts → block_height (block_of items tail) ≡ capped h
   height_of_block (st.braced _ p _ _) = of-block _ _ ∙ one_above _ _ (height_of_statements p)
 
-  height_of_single : {most h : ℕ} {n : StmtNode} {ts : List Token} → Single most h n ts → stmt_node_height n ≡ capped h
+  height_of_single : {limit h : ℕ} {n : StmtNode} {ts : List Token} → Single limit h n ts → stmt_node_height n ≡ capped h
   height_of_single (st.single_block {items} {tail} p) = of-StmtNode-Block (block_of items tail) ∙ one_above _ _ (height_of_block p)
   height_of_single (st.single_declaration p _) = of-StmtNode-Let _ ∙ one_above _ _ (height_of_declaration p)
   height_of_single (st.single_plain p) = height_of_plain p
   height_of_single (st.single_choice p) = height_of_choice p
 
-  height_of_statements : {most h : ℕ} {items : List Stmt} {ts : List Token} → Statements most h items ts → tallest (map stmt_height items) ≡ capped h
+  height_of_statements : {limit h : ℕ} {items : List Stmt} {ts : List Token} → Statements limit h items ts → tallest (map stmt_height items) ≡ capped h
   height_of_statements st.no_statements = refl
   height_of_statements (st.more_statements {n} {notes} _ p q) = highest_of _ _ _ _ (of-stmt notes _ n ∙ height_of_single p) (height_of_statements q)
 
-pub height_of_body : {most h : ℕ} {items : List Stmt} {tail : List (List ℕ)} {ts : List Token} → ConstructorBlock most h items tail ts → block_height (block_of items tail) ≡ capped h
+pub height_of_body : {limit h : ℕ} {items : List Stmt} {tail : List (List ℕ)} {ts : List Token} → ConstructorBlock limit h items tail ts → block_height (block_of items tail) ≡ capped h
 height_of_body (st.usual p) = height_of_block p
 height_of_body (st.super_first {n} {notes} _ _ p q _ _) = of-block _ _ ∙ one_above _ _ (highest_of _ _ _ _ (of-stmt notes _ n ∙ height_of_super p) (height_of_statements q))
 
 -- The height that a walk over the statements of a body counts.
-pub counted_body : {most h : ℕ} {items : List Stmt} {tail : List (List ℕ)} {ts : List Token} (b : Block) {seen : List Stmt} {highest result : ℕ} → ConstructorBlock most h items tail ts
+pub counted_body : {limit h : ℕ} {items : List Stmt} {tail : List (List ℕ)} {ts : List Token} (b : Block) {seen : List Stmt} {highest result : ℕ} → ConstructorBlock limit h items tail ts
     → b ≡ block_of items tail → seen ≡ (out-Block b).items → highest ≡ tallest (map stmt_height seen) → result ≡ above highest → result ≡ capped h
 counted_body {items} {tail} b p e s m r = r ∙ ap above (m ∙ ap (λ xs. tallest (map stmt_height xs)) (s ∙ ap (λ z. (out-Block z).items) e ∙ ap (λ z. z.items) (out-roll-Block (record { items = items; tail = tail }))))
     ∙ sym (of-block items tail) ∙ height_of_body p
 
-height_of_further : {most h : ℕ} {places : List ℕ} {ds : List Declarator} {ts : List Token} (words : List (List ℕ)) (to : TypeName) → Variables most h places ds ts
-    → tallest (map member_height (further_fields words to places ds)) ≡ capped h
+height_of_further : {limit h : ℕ} {ds : List (ℕ × Declarator)} {ts : List Token} (words : List (List ℕ)) (to : TypeName) → Variables limit h ds ts
+    → tallest (map member_height (map (λ d. field_of [] d.0 words to d.1) ds)) ≡ capped h
 height_of_further words to (st.last p) = only_one _ _ (height_of_variable p)
 height_of_further words to (st.more p _ q) = highest_of _ _ _ _ (height_of_variable p) (height_of_further words to q)
 
-height_of_fields : {most h : ℕ} {places : List ℕ} {ds : List Declarator} {ts : List Token} (front : List (List ℕ)) (at : ℕ) (words : List (List ℕ)) (to : TypeName) → Variables most h places ds ts
-    → tallest (map member_height (fields_of front at words to places ds)) ≡ capped h
+height_of_fields : {limit h : ℕ} {ds : List (ℕ × Declarator)} {ts : List Token} (front : List (List ℕ)) (at : ℕ) (words : List (List ℕ)) (to : TypeName) → Variables limit h ds ts
+    → tallest (map member_height (fields_of front at words to ds)) ≡ capped h
 height_of_fields front at words to (st.last p) = only_one _ _ (height_of_variable p)
 height_of_fields front at words to (st.more p _ q) = highest_of _ _ _ _ (height_of_variable p) (height_of_further words to q)
 
-pub height_of_member : {most : ℕ} {class : Option (List ℕ)} {h : ℕ} {ms : List Member} {ts : List Token} → Declared most class h ms ts → tallest (map member_height ms) ≡ capped h
+pub height_of_member : {limit : ℕ} {class : Option (List ℕ)} {h : ℕ} {ms : List Member} {ts : List Token} → Declared limit class h ms ts → tallest (map member_height ms) ≡ capped h
 height_of_member (mem.field _ _ _ _ p _) = height_of_fields _ _ _ _ p
 height_of_member (mem.method {comments} {tail} {items} _ _ _ _ _ _ _ p) = only_one _ _ (front_block comments tail (tailed comments items tail) items (height_of_block p))
 height_of_member (mem.abstract_method _ _ _ _ _ _ _) = refl
@@ -205,10 +207,10 @@ tallest_of_both : (ms ns : List Member) → tallest (map member_height (ms ++ ns
 tallest_of_both [] ns = sym (zero_max _)
 tallest_of_both (m ∷ ms) ns = max_of_both _ _ _ _ (tallest_of_both ms ns)
 
-height_of_members : {most : ℕ} {class : Option (List ℕ)} {h : ℕ} {ms : List Member} {ts : List Token} → Body most class h ms ts → tallest (map member_height ms) ≡ capped h
+height_of_members : {limit : ℕ} {class : Option (List ℕ)} {h : ℕ} {ms : List Member} {ts : List Token} → Body limit class h ms ts → tallest (map member_height ms) ≡ capped h
 height_of_members mem.none = refl
 height_of_members (mem.more {ms} {ns} p q) = tallest_of_both ms ns ∙ highest_of _ _ _ _ (height_of_member p) (height_of_members q)
 
 -- the height of a source file
-pub height_of_unit : {most h : ℕ} {u : Source} {ts : List Token} → SourceFile most h u ts → unit_height u ≡ capped h
+pub height_of_unit : {limit h : ℕ} {u : Source} {ts : List Token} → SourceFile limit h u ts → unit_height u ≡ capped h
 height_of_unit (unit.source _ _ _ _ _ _ _ _ _ _ _ _ p _ _ _) = height_of_members p

@@ -13,11 +13,11 @@ use Rattle.jav_tree.specs.Places.{unplaced_block, unplaced_else, unplaced_stmt, 
 
 pub decided : {n m k l : StmtNode} {P : Type 0} {r : Bool} → n ≡ k → m ≡ l → (unplaced_stmt_node k ≡ unplaced_stmt_node l) ↔ P → IsTrue r ↔ P
     → (IsTrue r → unplaced_stmt_node n ≡ unplaced_stmt_node m) × (unplaced_stmt_node n ≡ unplaced_stmt_node m → IsTrue r)
-decided e f told by = (λ i. ap unplaced_stmt_node e ∙ told.1 (by.0 i) ∙ sym (ap unplaced_stmt_node f), λ i. by.1 (told.0 (sym (ap unplaced_stmt_node e) ∙ i ∙ ap unplaced_stmt_node f)))
+decided e f parts by = (λ i. ap unplaced_stmt_node e ∙ parts.1 (by.0 i) ∙ sym (ap unplaced_stmt_node f), λ i. by.1 (parts.0 (sym (ap unplaced_stmt_node e) ∙ i ∙ ap unplaced_stmt_node f)))
 
 pub decided_else : {n m k l : Else} {P : Type 0} {r : Bool} → n ≡ k → m ≡ l → (unplaced_else k ≡ unplaced_else l) ↔ P → IsTrue r ↔ P
     → (IsTrue r → unplaced_else n ≡ unplaced_else m) × (unplaced_else n ≡ unplaced_else m → IsTrue r)
-decided_else e f told by = (λ i. ap unplaced_else e ∙ told.1 (by.0 i) ∙ sym (ap unplaced_else f), λ i. by.1 (told.0 (sym (ap unplaced_else e) ∙ i ∙ ap unplaced_else f)))
+decided_else e f parts by = (λ i. ap unplaced_else e ∙ parts.1 (by.0 i) ∙ sym (ap unplaced_else f), λ i. by.1 (parts.0 (sym (ap unplaced_else e) ∙ i ∙ ap unplaced_else f)))
 
 parts-Else-If : (x0 y0 : Stmt) → otherwise.If x0 ≡ otherwise.If y0 → (x0 ≡ y0)
 parts-Else-If x0 y0 e =
@@ -27,8 +27,8 @@ parts-Else-If x0 y0 e =
 pub unplaced-Else-If : (x0 : Stmt) → unplaced_else (otherwise.If x0) ≡ otherwise.If (unplaced_stmt x0)
 unplaced-Else-If x0 = ap unplaced_else (sym (otherwise.rolls-If x0)) ∙ fold-roll-Else _ _ _ _ else_step stmt_node_step block_step stmt_step (Else-F.Else::If x0)
 
-pub told-Else-If : (x0 y0 : Stmt) → (unplaced_else (otherwise.If x0) ≡ unplaced_else (otherwise.If y0)) ↔ unplaced_stmt x0 ≡ unplaced_stmt y0
-told-Else-If x0 y0 =
+pub same-Else-If : (x0 y0 : Stmt) → (unplaced_else (otherwise.If x0) ≡ unplaced_else (otherwise.If y0)) ↔ unplaced_stmt x0 ≡ unplaced_stmt y0
+same-Else-If x0 y0 =
     (λ i. parts-Else-If (unplaced_stmt x0) (unplaced_stmt y0) (sym (unplaced-Else-If x0) ∙ i ∙ unplaced-Else-If y0), λ j. (let k : otherwise.If (unplaced_stmt x0) ≡ otherwise.If (unplaced_stmt y0) = cc in unplaced-Else-If x0 ∙ k ∙ sym (unplaced-Else-If y0)))
 
 parts-block : (x y : List Stmt) (t u : List (List ℕ)) → block_of x t ≡ block_of y u → (x ≡ y) × (t ≡ u)
@@ -41,9 +41,9 @@ parts-block x y t u e =
 unplaced-block : (b : Block) → unplaced_block b ≡ block_of (map unplaced_stmt (out-Block b).items) (out-Block b).tail
 unplaced-block b = fold_out-Block _ _ _ _ else_step stmt_node_step block_step stmt_step b
 
-pub told-block : (a b : Block) → (unplaced_block a ≡ unplaced_block b) ↔ (map unplaced_stmt (out-Block a).items ≡ map unplaced_stmt (out-Block b).items) × ((out-Block a).tail ≡ (out-Block b).tail)
-told-block a b = (λ i. parts-block _ _ _ _ (sym (unplaced-block a) ∙ i ∙ unplaced-block b), λ j. (let k : block_of (map unplaced_stmt (out-Block a).items) (out-Block a).tail ≡ block_of (map unplaced_stmt (out-Block b).items) (out-Block b).tail = cc in unplaced-block a ∙ k ∙ sym (unplaced-block b)))
+pub same-block : (a b : Block) → (unplaced_block a ≡ unplaced_block b) ↔ (map unplaced_stmt (out-Block a).items ≡ map unplaced_stmt (out-Block b).items) × ((out-Block a).tail ≡ (out-Block b).tail)
+same-block a b = (λ i. parts-block _ _ _ _ (sym (unplaced-block a) ∙ i ∙ unplaced-block b), λ j. (let k : block_of (map unplaced_stmt (out-Block a).items) (out-Block a).tail ≡ block_of (map unplaced_stmt (out-Block b).items) (out-Block b).tail = cc in unplaced-block a ∙ k ∙ sym (unplaced-block b)))
 
 pub decided_block : (a b : Block) {r : Bool} → IsTrue r ↔ (map unplaced_stmt (out-Block a).items ≡ map unplaced_stmt (out-Block b).items) × ((out-Block a).tail ≡ (out-Block b).tail)
     → (IsTrue r → unplaced_block a ≡ unplaced_block b) × (unplaced_block a ≡ unplaced_block b → IsTrue r)
-decided_block a b by = (λ i. (told-block a b).1 (by.0 i), λ i. by.1 ((told-block a b).0 i))
+decided_block a b by = (λ i. (same-block a b).1 (by.0 i), λ i. by.1 ((same-block a b).0 i))

@@ -11,7 +11,7 @@ use Rattle.jav_tree.specs.Tokens.{IsSymbol, IsKeyword, IsName, IsLiteral, IsComm
 use Rattle.jav_tree.specs.Operators.{IsBinary, IsAssignment, IsStep, IsPrefix, binary_level, among}
 use Rattle.jav_tree.specs.Types.{IsPrimitive, BaseType, WholeType, Qualified}
 use Rattle.jav_tree.specs.Types as type
-use Rattle.jav_tree.specs.Expressions.{Expression, placed}
+use Rattle.jav_tree.specs.Expressions.{Expression, Primary, target, expr_at}
 use Rattle.jav_tree.specs.Expressions as is
 
 abbrev made : TokenKind → String → ℕ → Token
@@ -68,23 +68,27 @@ class_at text at = type.named (type.name (named text at))
 
 -- trees
 abbrev pub nm : ℕ → String → Expr
-nm at text = placed at (node.Name (codes text))
+nm at text = expr_at at (node.Name (codes text))
 
 abbrev pub num : ℕ → String → Expr
-num at text = placed at (node.Lit (codes text))
+num at text = expr_at at (node.Lit (codes text))
 
 abbrev pub un : ℕ → String → Expr → Expr
-un at op e = placed at (node.Unary (codes op) e)
+un at op e = expr_at at (node.Unary (codes op) e)
 
 abbrev pub bin : String → Expr → Expr → Expr
-bin op a b = placed a.at (node.Binary a (codes op) b)
+bin op a b = expr_at a.at (node.Binary a (codes op) b)
 
 abbrev pub set : String → Expr → Expr → Expr
-set op a b = placed a.at (node.Assign a (codes op) b)
+set op a b = expr_at a.at (node.Assign a (codes op) b)
+
+-- that a name is a target
+pub name_at : (text : String) (at : ℕ) → Primary 255 target 1 (nm at text) (word text at ∷ [])
+name_at text at = is.name (named text at)
 
 -- that a name or a literal is an expression of any level
 pub is_nm : {level : ℕ} (text : String) (at : ℕ) → Expression 255 level 1 (nm at text) (word text at ∷ [])
-is_nm text at = is.name (named text at)
+is_nm text at = is.primary (name_at text at)
 
 pub is_num : {level : ℕ} (text : String) (at : ℕ) → Expression 255 level 1 (num at text) (lit text at ∷ [])
-is_num text at = is.literal (literal text at)
+is_num text at = is.primary (is.literal (literal text at))

@@ -1,6 +1,6 @@
 -- What is wrong with tokens that are no tree: the first bad token, and of what sort the fault is.
-use Rattle.std.specs.Prelude.{◌≡◌, ℕ, List, [], ◌∷◌, ◌++◌, Some, None}
-use Rattle.mol_base.specs.Limits.{most}
+use Rattle.std.specs.Prelude.{◌≡◌, ◌⊎◌, ℕ, List, [], ◌∷◌, ◌++◌, Some, None}
+use Rattle.mol_base.specs.Limits as limits
 use Rattle.mol_base.specs.declared.limit.Which.TheVariants.{Height}
 use Rattle.mol_base.specs.Token.{Token}
 use Rattle.jav_tree.specs.declared.types.TypeName.{TypeName}
@@ -14,38 +14,38 @@ use Rattle.jav_tree.specs.Trees.{IsUnit, IsMember, IsBody, IsExpr, IsType}
 
 -- A language says which tokens are a tree of some kind within two limits: the number of items, and the height.
 abbrev pub units : ℕ → ℕ → List Token → Type 0
-units most tall ts = (u : Source) × IsUnit most tall u ts
+units limit max_height ts = (u : Source) × IsUnit limit max_height u ts
 
 abbrev pub members : ℕ → ℕ → List Token → Type 0
-members most tall ts = (ms : List Member) × IsMember most tall ms ts
+members limit max_height ts = (ms : List Member) × IsMember limit max_height ms ts
 
 abbrev pub bodies : ℕ → ℕ → List Token → Type 0
-bodies most tall ts = (b : Block) × IsBody most tall b ts
+bodies limit max_height ts = (b : Block) × IsBody limit max_height b ts
 
 abbrev pub expressions : ℕ → ℕ → List Token → Type 0
-expressions most tall ts = (e : Expr) × IsExpr most tall e ts
+expressions limit max_height ts = (e : Expr) × IsExpr limit max_height e ts
 
 abbrev pub types : ℕ → ℕ → List Token → Type 0
-types most tall ts = (to : TypeName) × IsType most to ts
+types limit max_height ts = (to : TypeName) × IsType limit to ts
 
 -- The limits of the project.
 abbrev pub most_items : ℕ
-most_items = 255
+most_items = limits.max_items
 
 abbrev pub most_height : ℕ
-most_height = most Height
+most_height = limits.most Height
 
 -- Some tree begins with these tokens.
 abbrev pub GoesOn : (ℕ → ℕ → List Token → Type 0) → ℕ → ℕ → List Token → Type 0
-GoesOn language most tall ts = (more : List Token) × language most tall (ts ++ more)
+GoesOn language limit max_height ts = (more : List Token) × language limit max_height (ts ++ more)
 
 -- Some tree begins so if the height has no limit.
 abbrev pub GoesOnHigher : (ℕ → ℕ → List Token → Type 0) → ℕ → List Token → Type 0
-GoesOnHigher language most ts = (tall : ℕ) × GoesOn language most tall ts
+GoesOnHigher language limit ts = (max_height : ℕ) × GoesOn language limit max_height ts
 
 -- Some tree begins so if neither the height nor the number of items has a limit.
 abbrev pub GoesOnAtAll : (ℕ → ℕ → List Token → Type 0) → List Token → Type 0
-GoesOnAtAll language ts = (most : ℕ) × GoesOnHigher language most ts
+GoesOnAtAll language ts = (limit : ℕ) × GoesOnHigher language limit ts
 
 -- The sort of a fault.
 pub data Variant : Type 0 where
@@ -71,10 +71,24 @@ end_of [] = 0
 end_of (t ∷ []) = t.end
 end_of (t ∷ u ∷ rest) = end_of (u ∷ rest)
 
--- Fault language ts variant at: these tokens are no tree, and this is what is wrong with them. The bad token is the first such that no
--- tree within the limits begins with the tokens up to and with it. Without one, the tokens end too early.
-pub data Fault (language : ℕ → ℕ → List Token → Type 0) : List Token → Variant → ℕ → Type 0 where
-  bad_token : {front : List Token} {bad : Token} {variant : Variant} (rest : List Token) → GoesOn language most_items most_height front
-      → ¬ (GoesOn language most_items most_height (front ++ bad ∷ [])) → FaultAt language front bad variant
-      → Fault language (front ++ bad ∷ rest) variant bad.start
-  too_early : {ts : List Token} → GoesOn language most_items most_height ts → ¬ (language most_items most_height ts) → Fault language ts expected (end_of ts)
+-- The bad token: the first such that no tree within the limits begins with the tokens up to and with it.
+pub record FirstBad (language : ℕ → ℕ → List Token → Type 0) (ts : List Token) (variant : Variant) (at : ℕ) : Type 0 where
+  pub front : List Token
+  pub bad : Token
+  pub rest : List Token
+  pub split : ts ≡ front ++ bad ∷ rest
+  pub goes_on : GoesOn language most_items most_height front
+  pub goes_on_no_more : ¬ (GoesOn language most_items most_height (front ++ bad ∷ []))
+  pub fault : FaultAt language front bad variant
+  pub place : at ≡ bad.start
+
+-- Tokens without a bad one that are no tree: they end too early.
+pub record EndsEarly (language : ℕ → ℕ → List Token → Type 0) (ts : List Token) (variant : Variant) (at : ℕ) : Type 0 where
+  pub goes_on : GoesOn language most_items most_height ts
+  pub no_tree : ¬ (language most_items most_height ts)
+  pub fault : variant ≡ expected
+  pub place : at ≡ end_of ts
+
+-- Fault language ts variant at: these tokens are no tree, and this is what is wrong with them.
+abbrev pub Fault : (ℕ → ℕ → List Token → Type 0) → List Token → Variant → ℕ → Type 0
+Fault language ts variant at = FirstBad language ts variant at ⊎ EndsEarly language ts variant at

@@ -1,6 +1,7 @@
 -- The one text of a source file, of a body and of a type, and the path of a file.
-use Rattle.std.specs.Prelude.{ℕ, List, [], ◌∷◌, ◌++◌, map, codes, if◌then◌else◌, nat_le, ◌&&◌, Option, Some, None, filter, not}
+use Rattle.std.specs.Prelude.{ℕ, List, [], ◌∷◌, ◌++◌, map, codes, if◌then◌else◌, Option, Some, None, filter, not}
 use Rattle.std.specs.Str.{bytes_eq}
+use Rattle.mol_base.specs.Paths.{path_of}
 use Rattle.jav_tree.specs.declared.types.TypeName.{TypeName}
 use Rattle.jav_tree.specs.declared.stmt.Block.{Block}
 use Rattle.jav_tree.specs.declared.unit.ClassDecl.{ClassDecl}
@@ -13,8 +14,8 @@ use Rattle.jav_tree.specs.declared.unit.Param.{Param}
 use Rattle.jav_tree.specs.declared.unit.Unit.{Unit as Source}
 use Rattle.jav_tree.specs.Words.{in_order, has}
 use Rattle.jav_tree.specs.Lines.{line_end, indent, all_of, listed, comment_lines}
-use Rattle.jav_tree.specs.LaidExpressions.{type_text}
-use Rattle.jav_tree.specs.LaidStatements.{valued_text, block_text}
+use Rattle.jav_tree.specs.TypeText.{type_text}
+use Rattle.jav_tree.specs.StatementText.{valued_text, block_text}
 
 -- the line `@Override`, where that stands among the modifiers
 abbrev pub override_line : List (List ℕ) → List ℕ
@@ -95,9 +96,6 @@ unit_text u = comment_lines 0 u.head ++ codes "package " ++ u.«package» ++ cod
 abbrev pub body_alone : Block → List ℕ
 body_alone b = block_text b 0
 
--- the path of a source file: the parts of its package, its class and `.java`
-abbrev pub slashed : List ℕ → List ℕ
-slashed name = map (λ c. if nat_le 46 c && nat_le c 46 then 47 else c) name
-
-abbrev pub path_of : Source → List ℕ
-path_of u = slashed u.«package» ++ codes "/" ++ u.class.name ++ codes ".java"
+-- the path of a source file
+abbrev pub unit_path : Source → List ℕ
+unit_path u = path_of u.«package» u.class.name

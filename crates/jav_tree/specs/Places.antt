@@ -132,9 +132,3 @@ SameBlock a b = unplaced_block a ≡ unplaced_block b
 
 abbrev pub SameUnit : Source → Source → Type 0
 SameUnit a b = unplaced_unit a ≡ unplaced_unit b
-
--- a relation that holds of each thing and itself, both ways, and through a third thing
-pub record IsEquivalence {A : Type 0} (R : A → A → Type 0) : Type 0 where
-  pub reflexive : (a : A) → R a a
-  pub symmetric : (a b : A) → R a b → R b a
-  pub transitive : (a b c : A) → R a b → R b c → R a c

@@ -1,5 +1,5 @@
 -- Which tokens are a whole tree, within the limits: no list of arguments or parameters and no array type or array creation
--- has more than `most` items, and nothing is higher than `tall`.
+-- has more than `limit` items, and nothing is higher than `max_height`.
 use Rattle.std.specs.Prelude.{◌≡◌, ℕ, ◌≤◌, List, None}
 use Rattle.mol_base.specs.Token.{Token}
 use Rattle.jav_tree.specs.declared.types.TypeName.{TypeName}
@@ -17,20 +17,20 @@ use Rattle.jav_tree.specs.Units.{SourceFile}
 
 -- a source file
 abbrev pub IsUnit : ℕ → ℕ → Source → List Token → Type 0
-IsUnit most tall u ts = (h : ℕ) × (h ≤ tall) × SourceFile most h u ts
+IsUnit limit max_height u ts = (h : ℕ) × (h ≤ max_height) × SourceFile limit h u ts
 
 -- the declaration of one member, or of several fields, outside a class: a constructor may have any name
 abbrev pub IsMember : ℕ → ℕ → List Member → List Token → Type 0
-IsMember most tall ms ts = (h : ℕ) × (h ≤ tall) × Declared most None h ms ts
+IsMember limit max_height ms ts = (h : ℕ) × (h ≤ max_height) × Declared limit None h ms ts
 
 -- the block of a body, which may begin with `super(..)`
 abbrev pub IsBody : ℕ → ℕ → Block → List Token → Type 0
-IsBody most tall b ts = (h : ℕ) × (items : List Stmt) × (tail : List (List ℕ)) × (h ≤ tall) × ConstructorBlock most h items tail ts × (b ≡ block_of items tail)
+IsBody limit max_height b ts = (h : ℕ) × (items : List Stmt) × (tail : List (List ℕ)) × (h ≤ max_height) × ConstructorBlock limit h items tail ts × (b ≡ block_of items tail)
 
 -- an expression; items in braces are none
 abbrev pub IsExpr : ℕ → ℕ → Expr → List Token → Type 0
-IsExpr most tall e ts = (h : ℕ) × (h ≤ tall) × Expression most 1 h e ts
+IsExpr limit max_height e ts = (h : ℕ) × (h ≤ max_height) × Expression limit 1 h e ts
 
 -- a type; `void` is none
 abbrev pub IsType : ℕ → TypeName → List Token → Type 0
-IsType most to ts = WholeType most to ts
+IsType limit to ts = WholeType limit to ts

@@ -1,8 +1,9 @@
 -- Names with dots, and types (JLS 4, 6.5, 10.1).
-use Rattle.std.specs.Prelude.{◌≡◌, ℕ, zero, suc, ◌≤◌, List, [], ◌∷◌, ◌++◌, codes}
+use Rattle.std.specs.Prelude.{◌≡◌, ℕ, zero, suc, ◌≤◌, List, [], ◌∷◌, ◌++◌, codes, Bool, true, false}
 use Rattle.mol_base.specs.Token.{Token}
 use Rattle.mol_base.specs.declared.token_kind.TokenKind.TheVariants as kind
-use Rattle.jav_tree.specs.declared.types.TypeName.{TypeName}
+use Rattle.jav_tree.specs.declared.types.TypeName.{TypeName, out-TypeName}
+use Rattle.jav_tree.specs.declared.types.TypeName.TheOpen.{TypeName-F}
 use Rattle.jav_tree.specs.declared.types.TypeName.TheVariants as ty
 use Rattle.jav_tree.specs.Tokens.{IsSymbol, IsName}
 
@@ -18,8 +19,8 @@ pub data IsPrimitive : Token → Type 0 where
 -- Qualified q ts: names joined by dots; q is the text without spaces.
 pub data Qualified : List ℕ → List Token → Type 0 where
   name : {t : Token} → IsName t → Qualified t.text (t ∷ [])
-  dotted : {t dot : Token} {q : List ℕ} {ts : List Token} → IsName t → IsSymbol "." dot → Qualified q ts
-      → Qualified (t.text ++ codes "." ++ q) (t ∷ dot ∷ ts)
+  dotted : {dot t : Token} {q : List ℕ} {ts : List Token} → Qualified q ts → IsSymbol "." dot → IsName t
+      → Qualified (q ++ codes "." ++ t.text) (ts ++ dot ∷ t ∷ [])
 
 -- BaseType ty ts: a type without brackets.
 pub data BaseType : TypeName → List Token → Type 0 where
@@ -37,7 +38,17 @@ abbrev pub array_of : ℕ → TypeName → TypeName
 array_of zero base = base
 array_of (suc n) base = ty.ArrayOf (array_of n base)
 
--- WholeType most ty ts: a type with at most `most` pairs of brackets.
-pub data WholeType (most : ℕ) : TypeName → List Token → Type 0 where
-  whole : {base : TypeName} {n : ℕ} {ts us : List Token} → BaseType base ts → Brackets n us → n ≤ most
-      → WholeType most (array_of n base) (ts ++ us)
+-- WholeType limit ty ts: a type with at most `limit` pairs of brackets.
+pub data WholeType (limit : ℕ) : TypeName → List Token → Type 0 where
+  whole : {base : TypeName} {n : ℕ} {ts us : List Token} → BaseType base ts → Brackets n us → n ≤ limit
+      → WholeType limit (array_of n base) (ts ++ us)
+
+-- whether a type is primitive, and no array of one
+abbrev pub primitive_case : TypeName-F TypeName → Bool
+primitive_case (TypeName-F.Prim text) = true
+primitive_case (TypeName-F.Named text) = false
+primitive_case (TypeName-F.ArrayOf item) = false
+primitive_case TypeName-F.Void = false
+
+abbrev pub is_primitive : TypeName → Bool
+is_primitive to = primitive_case (out-TypeName to)

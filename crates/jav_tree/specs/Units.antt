@@ -21,7 +21,7 @@ pub data Named : List ℕ → List Token → Type 0 where
 pub data Imports : List (List ℕ) → List (List ℕ) → List Token → Type 0 where
   none : Imports [] [] []
   import : {word : Token} {q : List ℕ} {names comments more : List (List ℕ)} {ts us vs : List Token} → IsKeyword "import" word → Named q ts
-      → Comments comments us → Imports names more vs → Imports (q ∷ names) (comments ++ more) (word ∷ ts ++ us ++ vs)
+      → Comments comments us → Imports names more vs → Imports (q ∷ names) (comments ++ more) (word ∷ ts ++ (us ++ vs))
 
 -- `extends q`, or nothing
 pub data Parent : Option TypeName → List Token → Type 0 where
@@ -33,14 +33,14 @@ pub record AscendingOf (names sorted : List (List ℕ)) : Type 0 where
   pub same_names : IsPermutation names sorted
   pub ascending : IsSorted (slice_cmp nat_cmp) sorted
 
--- SourceFile most height unit ts: a whole file. Comments before `package` are the head; those from there to the class's first
+-- SourceFile limit height unit ts: a whole file. Comments before `package` are the head; those from there to the class's first
 -- word are its front; those before its last brace and after it are its tail.
-pub data SourceFile (most : ℕ) : ℕ → Source → List Token → Type 0 where
+pub data SourceFile (limit : ℕ) : ℕ → Source → List Token → Type 0 where
   source : {h : ℕ} {packaged class name left right : Token} {q : List ℕ} {head first others words names imports tail last : List (List ℕ)}
       {parent : Option TypeName} {members : List Member} {cs ps fs is ws es ms ts ls : List Token}
       → Comments head cs → IsKeyword "package" packaged → Named q ps → Comments first fs → Imports names others is → AscendingOf names imports
       → Words words ws → ClassWords words → IsKeyword "class" class → IsName name → Parent parent es → IsSymbol "{" left
-      → Body most (Some name.text) h members ms → Comments tail ts → IsSymbol "}" right → Comments last ls
-      → SourceFile most h
+      → Body limit (Some name.text) h members ms → Comments tail ts → IsSymbol "}" right → Comments last ls
+      → SourceFile limit h
       (record { head = head; «package» = q; imports = imports; class = record { front = first ++ others; words = in_order words; name = name.text; parent = parent; members = members; tail = tail ++ last } })
-      (cs ++ packaged ∷ ps ++ fs ++ is ++ ws ++ class ∷ name ∷ es ++ left ∷ ms ++ ts ++ right ∷ ls)
+      (cs ++ (packaged ∷ ps ++ (fs ++ (is ++ (ws ++ (class ∷ name ∷ es ++ (left ∷ ms ++ (ts ++ right ∷ ls))))))))

@@ -1,5 +1,5 @@
 ghost use Rattle.std.specs.Prelude.{◌≡◌, IfOk, map, option_map};
-ghost use Rattle.jav_tree.specs.Parens.{bare_expr, bare_expr_node};
+ghost use Rattle.jav_tree.specs.Parens.{expr_without_parens, expr_node_without_parens};
 
 use crate::expr::{Expr, ExprNode};
 use mol_base::{Boxed, List, OutOfMemory};
@@ -9,7 +9,7 @@ impl Expr {
     /// The expression with each `Paren` replaced by what it holds.
     #[cycle(bare_expr)]
     pub fn drop_parens(&self, alloc: Global) -> Result<Expr, OutOfMemory>
-        ensures { IfOk result (λ bare. bare ≡ bare_expr self.now) }
+        ensures { IfOk result (λ bare. bare ≡ expr_without_parens self.now) }
     {
         self.node.bare_at(alloc, self.at)
     }
@@ -18,7 +18,7 @@ impl Expr {
 impl ExprNode {
     #[cycle(bare_expr)]
     fn bare_at(&self, alloc: Global, at: u32) -> Result<Expr, OutOfMemory>
-        ensures { IfOk result (λ bare. bare ≡ bare_expr_node self.now at) }
+        ensures { IfOk result (λ bare. bare ≡ expr_node_without_parens self.now at) }
     {
         match self {
             ExprNode::Lit(text) => Ok(placed(at, ExprNode::Lit(text.copy(alloc)?))),
@@ -113,14 +113,14 @@ fn placed(at: u32, node: ExprNode) -> Expr
 
 #[cycle(bare_expr)]
 fn bare_boxed(alloc: Global, e: &Expr) -> Result<Boxed<Expr>, OutOfMemory>
-    ensures { IfOk result (λ bare. bare ≡ bare_expr e.now) }
+    ensures { IfOk result (λ bare. bare ≡ expr_without_parens e.now) }
 {
     Boxed::new(alloc, e.drop_parens(alloc)?)
 }
 
 #[cycle(bare_expr)]
 fn bare_on(alloc: Global, on: &Option<Boxed<Expr>>) -> Result<Option<Boxed<Expr>>, OutOfMemory>
-    ensures { IfOk result (λ bare. bare ≡ option_map bare_expr on.now) }
+    ensures { IfOk result (λ bare. bare ≡ option_map expr_without_parens on.now) }
 {
     match on {
         Some(e) => Ok(Some(bare_boxed(alloc, e.get())?)),
@@ -131,7 +131,7 @@ fn bare_on(alloc: Global, on: &Option<Boxed<Expr>>) -> Result<Option<Boxed<Expr>
 /// Each of the expressions without its parentheses.
 #[cycle(bare_expr)]
 pub fn bare_all(alloc: Global, items: &[Expr]) -> Result<List<Expr>, OutOfMemory>
-    ensures { IfOk result (λ all. all ≡ map bare_expr items.now) }
+    ensures { IfOk result (λ all. all ≡ map expr_without_parens items.now) }
 {
     let mut all = List::new(alloc);
     for item in items {
@@ -142,7 +142,7 @@ pub fn bare_all(alloc: Global, items: &[Expr]) -> Result<List<Expr>, OutOfMemory
 
 /// The expression there is, without its parentheses.
 pub fn bare_maybe(alloc: Global, e: &Option<Expr>) -> Result<Option<Expr>, OutOfMemory>
-    ensures { IfOk result (λ bare. bare ≡ option_map bare_expr e.now) }
+    ensures { IfOk result (λ bare. bare ≡ option_map expr_without_parens e.now) }
 {
     match e {
         Some(e) => Ok(Some(e.drop_parens(alloc)?)),

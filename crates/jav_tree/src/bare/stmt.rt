@@ -1,5 +1,6 @@
 ghost use Rattle.std.specs.Prelude.{◌≡◌, IfOk, map};
-ghost use Rattle.jav_tree.specs.Parens as spec;
+ghost use Rattle.jav_tree.specs.EachExpression.{map_block, map_declarator, map_else, map_let, map_start, map_stmt, map_stmt_node};
+ghost use Rattle.jav_tree.specs.Parens.{expr_without_parens};
 
 use crate::bare::{bare_all, bare_maybe};
 use crate::copy::copy_texts;
@@ -9,7 +10,7 @@ use std::alloc::Global;
 
 impl Declarator {
     fn drop_parens(&self, alloc: Global) -> Result<Declarator, OutOfMemory>
-        ensures { IfOk result (λ bare. bare ≡ spec.bare_declarator self.now) }
+        ensures { IfOk result (λ bare. bare ≡ map_declarator expr_without_parens self.now) }
     {
         Ok(Declarator {
             name: self.name.copy(alloc)?,
@@ -19,7 +20,7 @@ impl Declarator {
 }
 
 fn bare_names(alloc: Global, items: &[Declarator]) -> Result<List<Declarator>, OutOfMemory>
-    ensures { IfOk result (λ all. all ≡ map spec.bare_declarator items.now) }
+    ensures { IfOk result (λ all. all ≡ map (map_declarator expr_without_parens) items.now) }
 {
     let mut all = List::new(alloc);
     for item in items {
@@ -30,7 +31,7 @@ fn bare_names(alloc: Global, items: &[Declarator]) -> Result<List<Declarator>, O
 
 impl Let {
     fn drop_parens(&self, alloc: Global) -> Result<Let, OutOfMemory>
-        ensures { IfOk result (λ bare. bare ≡ spec.bare_let self.now) }
+        ensures { IfOk result (λ bare. bare ≡ map_let expr_without_parens self.now) }
     {
         Ok(Let {
             is_final: self.is_final,
@@ -42,7 +43,7 @@ impl Let {
 
 impl ForStart {
     fn drop_parens(&self, alloc: Global) -> Result<ForStart, OutOfMemory>
-        ensures { IfOk result (λ bare. bare ≡ spec.bare_start self.now) }
+        ensures { IfOk result (λ bare. bare ≡ map_start expr_without_parens self.now) }
     {
         match self {
             ForStart::None => Ok(ForStart::None),
@@ -56,7 +57,7 @@ impl Block {
     /// The block with each `Paren` replaced by what it holds.
     #[cycle(bare_stmt)]
     pub fn drop_parens(&self, alloc: Global) -> Result<Block, OutOfMemory>
-        ensures { IfOk result (λ bare. bare ≡ spec.bare_block self.now) }
+        ensures { IfOk result (λ bare. bare ≡ map_block expr_without_parens self.now) }
     {
         Ok(Block {
             items: bare_stmts(alloc, self.items.items())?,
@@ -68,7 +69,7 @@ impl Block {
 impl Stmt {
     #[cycle(bare_stmt)]
     fn drop_parens(&self, alloc: Global) -> Result<Stmt, OutOfMemory>
-        ensures { IfOk result (λ bare. bare ≡ spec.bare_stmt self.now) }
+        ensures { IfOk result (λ bare. bare ≡ map_stmt expr_without_parens self.now) }
     {
         Ok(Stmt {
             notes: copy_texts(alloc, self.notes.items())?,
@@ -81,7 +82,7 @@ impl Stmt {
 impl Else {
     #[cycle(bare_stmt)]
     fn drop_parens(&self, alloc: Global) -> Result<Else, OutOfMemory>
-        ensures { IfOk result (λ bare. bare ≡ spec.bare_else self.now) }
+        ensures { IfOk result (λ bare. bare ≡ map_else expr_without_parens self.now) }
     {
         match self {
             Else::None => Ok(Else::None),
@@ -94,7 +95,7 @@ impl Else {
 impl StmtNode {
     #[cycle(bare_stmt)]
     fn drop_parens(&self, alloc: Global) -> Result<StmtNode, OutOfMemory>
-        ensures { IfOk result (λ bare. bare ≡ spec.bare_stmt_node self.now) }
+        ensures { IfOk result (λ bare. bare ≡ map_stmt_node expr_without_parens self.now) }
     {
         match self {
             StmtNode::Block(block) => Ok(StmtNode::Block(block.drop_parens(alloc)?)),
@@ -134,7 +135,7 @@ impl StmtNode {
 
 #[cycle(bare_stmt)]
 fn bare_stmts(alloc: Global, items: &[Stmt]) -> Result<List<Stmt>, OutOfMemory>
-    ensures { IfOk result (λ all. all ≡ map spec.bare_stmt items.now) }
+    ensures { IfOk result (λ all. all ≡ map (map_stmt expr_without_parens) items.now) }
 {
     let mut all = List::new(alloc);
     for item in items {

@@ -1,6 +1,8 @@
 ghost use Rattle.std.specs.Prelude.{◌≡◌, IfOk, map, option_map};
 ghost use Rattle.jav_tree.specs.Layout.{unit_text};
+ghost use Rattle.jav_tree.specs.EachExpression.{map_class, map_ctor, map_field, map_method};
 ghost use Rattle.jav_tree.specs.Parens as spec;
+ghost use Rattle.jav_tree.specs.Parens.{expr_without_parens};
 
 use crate::bare::bare_maybe;
 use crate::copy::{copy_params, copy_parent, copy_texts};
@@ -12,9 +14,9 @@ use std::alloc::Global;
 impl Unit {
     /// The unit with each `Paren` replaced by what it holds. All else stays, places too.
     pub fn drop_parens(&self, alloc: Global) -> Result<Unit, OutOfMemory>
-        ensures value { IfOk result (λ bare. bare ≡ spec.bare_unit self.now) }
+        ensures value { IfOk result (λ bare. bare ≡ spec.unit_without_parens self.now) }
         // Dropping parentheses again changes nothing.
-        ensures settled { IfOk result (λ bare. spec.bare_unit bare ≡ bare) }
+        ensures settled { IfOk result (λ bare. spec.unit_without_parens bare ≡ bare) }
         // The layout does not see parentheses.
         ensures layout { IfOk result (λ bare. unit_text bare ≡ unit_text self.now) }
     {
@@ -22,7 +24,7 @@ impl Unit {
     }
 
     fn without_parens(&self, alloc: Global) -> Result<Unit, OutOfMemory>
-        ensures { IfOk result (λ bare. bare ≡ spec.bare_unit self.now) }
+        ensures { IfOk result (λ bare. bare ≡ spec.unit_without_parens self.now) }
     {
         Ok(Unit {
             head: copy_texts(alloc, self.head.items())?,
@@ -35,7 +37,7 @@ impl Unit {
 
 impl ClassDecl {
     fn drop_parens(&self, alloc: Global) -> Result<ClassDecl, OutOfMemory>
-        ensures { IfOk result (λ bare. bare ≡ spec.bare_class self.now) }
+        ensures { IfOk result (λ bare. bare ≡ map_class expr_without_parens self.now) }
     {
         Ok(ClassDecl {
             front: copy_texts(alloc, self.front.items())?,
@@ -49,7 +51,7 @@ impl ClassDecl {
 }
 
 fn bare_members(alloc: Global, members: &[Member]) -> Result<List<Member>, OutOfMemory>
-    ensures { IfOk result (λ all. all ≡ map spec.bare_member members.now) }
+    ensures { IfOk result (λ all. all ≡ map spec.member_without_parens members.now) }
 {
     let mut all = List::new(alloc);
     for member in members {
@@ -60,7 +62,7 @@ fn bare_members(alloc: Global, members: &[Member]) -> Result<List<Member>, OutOf
 
 impl Member {
     fn drop_parens(&self, alloc: Global) -> Result<Member, OutOfMemory>
-        ensures { IfOk result (λ bare. bare ≡ spec.bare_member self.now) }
+        ensures { IfOk result (λ bare. bare ≡ spec.member_without_parens self.now) }
     {
         match self {
             Member::Field(field) => Ok(Member::Field(field.drop_parens(alloc)?)),
@@ -72,7 +74,7 @@ impl Member {
 
 impl Field {
     fn drop_parens(&self, alloc: Global) -> Result<Field, OutOfMemory>
-        ensures { IfOk result (λ bare. bare ≡ spec.bare_field self.now) }
+        ensures { IfOk result (λ bare. bare ≡ map_field expr_without_parens self.now) }
     {
         Ok(Field {
             front: copy_texts(alloc, self.front.items())?,
@@ -87,7 +89,7 @@ impl Field {
 
 impl Method {
     fn drop_parens(&self, alloc: Global) -> Result<Method, OutOfMemory>
-        ensures { IfOk result (λ bare. bare ≡ spec.bare_method self.now) }
+        ensures { IfOk result (λ bare. bare ≡ map_method expr_without_parens self.now) }
     {
         Ok(Method {
             front: copy_texts(alloc, self.front.items())?,
@@ -103,7 +105,7 @@ impl Method {
 }
 
 fn bare_body(alloc: Global, block: &Option<Block>) -> Result<Option<Block>, OutOfMemory>
-    ensures { IfOk result (λ bare. bare ≡ option_map spec.bare_block block.now) }
+    ensures { IfOk result (λ bare. bare ≡ option_map spec.block_without_parens block.now) }
 {
     match block {
         Some(block) => Ok(Some(block.drop_parens(alloc)?)),
@@ -113,7 +115,7 @@ fn bare_body(alloc: Global, block: &Option<Block>) -> Result<Option<Block>, OutO
 
 impl Ctor {
     fn drop_parens(&self, alloc: Global) -> Result<Ctor, OutOfMemory>
-        ensures { IfOk result (λ bare. bare ≡ spec.bare_ctor self.now) }
+        ensures { IfOk result (λ bare. bare ≡ map_ctor expr_without_parens self.now) }
     {
         Ok(Ctor {
             front: copy_texts(alloc, self.front.items())?,

@@ -1,7 +1,6 @@
 ghost use Rattle.std.specs.Prelude.{◌≡◌, ℕ, List, min, map, option_map};
 ghost use Rattle.mol_base.specs.Token.{Token};
 ghost use Rattle.jav_tree.specs.Height as spec;
-ghost use Rattle.jav_tree.specs.OutlineUnits.{TokensAreDetermined};
 ghost use Rattle.jav_tree.specs.Units.{SourceFile};
 
 use crate::height::height_maybe;
@@ -15,9 +14,6 @@ impl Unit {
         ensures value { result ≡ spec.unit_height self.now }
         // It is the height that the grammar speaks of.
         ensures grammar { (most h : ℕ) (ts : List Token) → SourceFile most h self.now ts → result ≡ min h 0xffff_ffff }
-        // A law of the grammar: the tokens of a tree show an outline of it, and so are determined but for
-        // what that leaves open.
-        ensures tokens { TokensAreDetermined }
     {
         tallest_members(self.class.members.items())
     }

@@ -1,7 +1,7 @@
 ghost use Rattle.std.specs.Prelude.{◌≡◌, ◌↔◌, IsTrue, map, option_map};
 ghost use Rattle.jav_tree.specs.Places.{SameExpr, unplaced_expr, unplaced_expr_node};
 
-use crate::expr::{Expr, ExprNode};
+use crate::expr::{Expr, ExprNode as Node};
 use crate::same::{same_text, same_type};
 use mol_base::Boxed;
 
@@ -15,190 +15,68 @@ impl Expr {
     }
 }
 
-impl ExprNode {
+impl Node {
     #[cycle(same_expr)]
-    fn same(&self, other: &ExprNode) -> bool
+    fn same(&self, other: &Node) -> bool
         ensures { IsTrue result ↔ unplaced_expr_node self.now ≡ unplaced_expr_node other.now }
     {
-        match self {
-            ExprNode::Lit(text) => match other {
-                ExprNode::Lit(their) => same_text(text, their),
-                _ => false,
-            },
-            ExprNode::This => match other {
-                ExprNode::This => true,
-                _ => false,
-            },
-            ExprNode::Name(name) => match other {
-                ExprNode::Name(their) => same_text(name, their),
-                _ => false,
-            },
-            ExprNode::Dot(e, name) => match other {
-                ExprNode::Dot(c, their) => {
-                    if !same_text(name, their) {
-                        return false;
-                    }
-                    e.get().same(c.get())
-                }
-                _ => false,
-            },
-            ExprNode::Call(on, name, args) => match other {
-                ExprNode::Call(c, their, items) => {
-                    if !same_text(name, their) {
-                        return false;
-                    }
-                    if !same_on(on, c) {
-                        return false;
-                    }
-                    same_all(args.items(), items.items())
-                }
-                _ => false,
-            },
-            ExprNode::SuperCall(name, args) => match other {
-                ExprNode::SuperCall(their, items) => {
-                    if !same_text(name, their) {
-                        return false;
-                    }
-                    same_all(args.items(), items.items())
-                }
-                _ => false,
-            },
-            ExprNode::New(ty, args) => match other {
-                ExprNode::New(their, items) => {
-                    if !same_type(ty, their) {
-                        return false;
-                    }
-                    same_all(args.items(), items.items())
-                }
-                _ => false,
-            },
-            ExprNode::NewArray(ty, sizes, open) => match other {
-                ExprNode::NewArray(their, items, count) => {
-                    if *open != *count {
-                        return false;
-                    }
-                    if !same_type(ty, their) {
-                        return false;
-                    }
-                    same_all(sizes.items(), items.items())
-                }
-                _ => false,
-            },
-            ExprNode::ArrayLit(ty, args) => match other {
-                ExprNode::ArrayLit(their, items) => {
-                    if !same_type(ty, their) {
-                        return false;
-                    }
-                    same_all(args.items(), items.items())
-                }
-                _ => false,
-            },
-            ExprNode::Braces(args) => match other {
-                ExprNode::Braces(items) => same_all(args.items(), items.items()),
-                _ => false,
-            },
-            ExprNode::Index(a, b) => match other {
-                ExprNode::Index(c, d) => {
-                    if !a.get().same(c.get()) {
-                        return false;
-                    }
-                    b.get().same(d.get())
-                }
-                _ => false,
-            },
-            ExprNode::Unary(name, e) => match other {
-                ExprNode::Unary(their, c) => {
-                    if !same_text(name, their) {
-                        return false;
-                    }
-                    e.get().same(c.get())
-                }
-                _ => false,
-            },
-            ExprNode::Post(e, name) => match other {
-                ExprNode::Post(c, their) => {
-                    if !same_text(name, their) {
-                        return false;
-                    }
-                    e.get().same(c.get())
-                }
-                _ => false,
-            },
-            ExprNode::Binary(a, name, b) => match other {
-                ExprNode::Binary(c, their, d) => {
-                    if !same_text(name, their) {
-                        return false;
-                    }
-                    if !a.get().same(c.get()) {
-                        return false;
-                    }
-                    b.get().same(d.get())
-                }
-                _ => false,
-            },
-            ExprNode::Assign(a, name, b) => match other {
-                ExprNode::Assign(c, their, d) => {
-                    if !same_text(name, their) {
-                        return false;
-                    }
-                    if !a.get().same(c.get()) {
-                        return false;
-                    }
-                    b.get().same(d.get())
-                }
-                _ => false,
-            },
-            ExprNode::Cond(test, a, b) => match other {
-                ExprNode::Cond(their, c, d) => {
-                    if !test.get().same(their.get()) {
-                        return false;
-                    }
-                    if !a.get().same(c.get()) {
-                        return false;
-                    }
-                    b.get().same(d.get())
-                }
-                _ => false,
-            },
-            ExprNode::Cast(ty, e) => match other {
-                ExprNode::Cast(their, c) => {
-                    if !same_type(ty, their) {
-                        return false;
-                    }
-                    e.get().same(c.get())
-                }
-                _ => false,
-            },
-            ExprNode::InstanceOf(e, ty) => match other {
-                ExprNode::InstanceOf(c, their) => {
-                    if !same_type(ty, their) {
-                        return false;
-                    }
-                    e.get().same(c.get())
-                }
-                _ => false,
-            },
-            ExprNode::Paren(e) => match other {
-                ExprNode::Paren(c) => e.get().same(c.get()),
-                _ => false,
-            },
+        match (self, other) {
+            (Node::Lit(text), Node::Lit(their)) => same_text(text, their),
+            (Node::This, Node::This) => true,
+            (Node::Name(name), Node::Name(their)) => same_text(name, their),
+            (Node::Dot(e, name), Node::Dot(c, their)) => same_text(name, their) && same(e, c),
+            (Node::Call(on, name, args), Node::Call(c, their, items)) => {
+                same_text(name, their) && same_on(on, c) && same_all(args.items(), items.items())
+            }
+            (Node::SuperCall(name, args), Node::SuperCall(their, items)) => {
+                same_text(name, their) && same_all(args.items(), items.items())
+            }
+            (Node::New(ty, args), Node::New(their, items)) => {
+                same_type(ty, their) && same_all(args.items(), items.items())
+            }
+            (Node::NewArray(ty, sizes, open), Node::NewArray(their, items, count)) => {
+                *open == *count && same_type(ty, their) && same_all(sizes.items(), items.items())
+            }
+            (Node::ArrayLit(ty, args), Node::ArrayLit(their, items)) => {
+                same_type(ty, their) && same_all(args.items(), items.items())
+            }
+            (Node::Braces(args), Node::Braces(items)) => same_all(args.items(), items.items()),
+            (Node::Paren(e), Node::Paren(c)) => same(e, c),
+            (Node::Index(a, b), Node::Index(c, d)) => same(a, c) && same(b, d),
+            (Node::Unary(op, e), Node::Unary(their, c)) => same_text(op, their) && same(e, c),
+            (Node::Post(e, op), Node::Post(c, their)) => same_text(op, their) && same(e, c),
+            (Node::Binary(a, op, b), Node::Binary(c, their, d)) => {
+                same_text(op, their) && same(a, c) && same(b, d)
+            }
+            (Node::Assign(a, op, b), Node::Assign(c, their, d)) => {
+                same_text(op, their) && same(a, c) && same(b, d)
+            }
+            (Node::Cond(test, a, b), Node::Cond(their, c, d)) => {
+                same(test, their) && same(a, c) && same(b, d)
+            }
+            (Node::Cast(ty, e), Node::Cast(their, c)) => same_type(ty, their) && same(e, c),
+            (Node::InstanceOf(e, t), Node::InstanceOf(c, to)) => same_type(t, to) && same(e, c),
+            _ => false,
         }
     }
+}
+
+/// Whether what the boxes hold is equal but for places.
+#[cycle(same_expr)]
+fn same(e: &Boxed<Expr>, other: &Boxed<Expr>) -> bool
+    ensures { IsTrue result ↔ unplaced_expr e.now ≡ unplaced_expr other.now }
+{
+    e.get().same(other.get())
 }
 
 #[cycle(same_expr)]
 fn same_on(on: &Option<Boxed<Expr>>, other: &Option<Boxed<Expr>>) -> bool
     ensures { IsTrue result ↔ option_map unplaced_expr on.now ≡ option_map unplaced_expr other.now }
 {
-    match on {
-        Some(e) => match other {
-            Some(their) => e.get().same(their.get()),
-            None => false,
-        },
-        None => match other {
-            Some(_) => false,
-            None => true,
-        },
+    match (on, other) {
+        (Some(e), Some(their)) => e.get().same(their.get()),
+        (None, None) => true,
+        _ => false,
     }
 }
 
@@ -222,14 +100,9 @@ pub fn same_all(items: &[Expr], others: &[Expr]) -> bool
 pub fn same_maybe(e: &Option<Expr>, other: &Option<Expr>) -> bool
     ensures { IsTrue result ↔ option_map unplaced_expr e.now ≡ option_map unplaced_expr other.now }
 {
-    match e {
-        Some(e) => match other {
-            Some(their) => e.same(their),
-            None => false,
-        },
-        None => match other {
-            Some(_) => false,
-            None => true,
-        },
+    match (e, other) {
+        (Some(e), Some(their)) => e.same(their),
+        (None, None) => true,
+        _ => false,
     }
 }

@@ -2,7 +2,7 @@ ghost use Rattle.std.specs.Prelude.{◌≡◌, ◌↔◌, IsTrue, map};
 ghost use Rattle.jav_tree.specs.Places as spec;
 
 use crate::same::{same_all, same_maybe, same_text, same_texts, same_type};
-use crate::stmt::{Block, Declarator, Else, ForStart, Let, Stmt, StmtNode};
+use crate::stmt::{Block, Declarator, Else, ForStart, Let, Stmt, StmtNode as Node};
 
 impl Declarator {
     fn same(&self, other: &Declarator) -> bool
@@ -48,19 +48,11 @@ impl ForStart {
     fn same(&self, other: &ForStart) -> bool
         ensures { IsTrue result ↔ spec.unplaced_start self.now ≡ spec.unplaced_start other.now }
     {
-        match self {
-            ForStart::None => match other {
-                ForStart::None => true,
-                _ => false,
-            },
-            ForStart::Let(decl) => match other {
-                ForStart::Let(their) => decl.same(their),
-                _ => false,
-            },
-            ForStart::Do(all) => match other {
-                ForStart::Do(others) => same_all(all.items(), others.items()),
-                _ => false,
-            },
+        match (self, other) {
+            (ForStart::None, ForStart::None) => true,
+            (ForStart::Let(decl), ForStart::Let(their)) => decl.same(their),
+            (ForStart::Do(all), ForStart::Do(others)) => same_all(all.items(), others.items()),
+            _ => false,
         }
     }
 }
@@ -95,119 +87,50 @@ impl Else {
     fn same(&self, other: &Else) -> bool
         ensures { IsTrue result ↔ spec.unplaced_else self.now ≡ spec.unplaced_else other.now }
     {
-        match self {
-            Else::None => match other {
-                Else::None => true,
-                _ => false,
-            },
-            Else::Block(block) => match other {
-                Else::Block(their) => block.same(their),
-                _ => false,
-            },
-            Else::If(stmt) => match other {
-                Else::If(their) => stmt.get().same(their.get()),
-                _ => false,
-            },
+        match (self, other) {
+            (Else::None, Else::None) => true,
+            (Else::Block(block), Else::Block(their)) => block.same(their),
+            (Else::If(stmt), Else::If(their)) => stmt.get().same(their.get()),
+            _ => false,
         }
     }
 }
 
-impl StmtNode {
+impl Node {
     #[cycle(same_stmt)]
-    fn same(&self, other: &StmtNode) -> bool
+    fn same(&self, other: &Node) -> bool
         ensures { IsTrue result ↔ spec.unplaced_stmt_node self.now ≡ spec.unplaced_stmt_node other.now }
     {
-        match self {
-            StmtNode::Block(block) => match other {
-                StmtNode::Block(their) => block.same(their),
-                _ => false,
-            },
-            StmtNode::Let(decl) => match other {
-                StmtNode::Let(their) => decl.same(their),
-                _ => false,
-            },
-            StmtNode::Do(e) => match other {
-                StmtNode::Do(their) => e.same(their),
-                _ => false,
-            },
-            StmtNode::If(e, then, orelse) => match other {
-                StmtNode::If(test, their, others) => {
-                    if !e.same(test) {
-                        return false;
-                    }
-                    if !then.same(their) {
-                        return false;
-                    }
-                    orelse.same(others)
-                }
-                _ => false,
-            },
-            StmtNode::While(e, body) => match other {
-                StmtNode::While(test, their) => {
-                    if !e.same(test) {
-                        return false;
-                    }
-                    body.same(their)
-                }
-                _ => false,
-            },
-            StmtNode::For(start, test, steps, body) => match other {
-                StmtNode::For(begin, end, all, their) => {
-                    if !start.same(begin) {
-                        return false;
-                    }
-                    if !same_maybe(test, end) {
-                        return false;
-                    }
-                    if !same_all(steps.items(), all.items()) {
-                        return false;
-                    }
-                    body.same(their)
-                }
-                _ => false,
-            },
-            StmtNode::Each(is_final, ty, name, e, body) => match other {
-                StmtNode::Each(fixed, to, word, over, their) => {
-                    if *is_final != *fixed {
-                        return false;
-                    }
-                    if !same_type(ty, to) {
-                        return false;
-                    }
-                    if !same_text(name, word) {
-                        return false;
-                    }
-                    if !e.same(over) {
-                        return false;
-                    }
-                    body.same(their)
-                }
-                _ => false,
-            },
-            StmtNode::Return(e) => match other {
-                StmtNode::Return(their) => same_maybe(e, their),
-                _ => false,
-            },
-            StmtNode::Throw(e) => match other {
-                StmtNode::Throw(their) => e.same(their),
-                _ => false,
-            },
-            StmtNode::Break => match other {
-                StmtNode::Break => true,
-                _ => false,
-            },
-            StmtNode::Continue => match other {
-                StmtNode::Continue => true,
-                _ => false,
-            },
-            StmtNode::Empty => match other {
-                StmtNode::Empty => true,
-                _ => false,
-            },
-            StmtNode::SuperInit(args) => match other {
-                StmtNode::SuperInit(others) => same_all(args.items(), others.items()),
-                _ => false,
-            },
+        match (self, other) {
+            (Node::Block(block), Node::Block(their)) => block.same(their),
+            (Node::Let(decl), Node::Let(their)) => decl.same(their),
+            (Node::Do(e), Node::Do(their)) => e.same(their),
+            (Node::If(e, then, orelse), Node::If(test, their, others)) => {
+                e.same(test) && then.same(their) && orelse.same(others)
+            }
+            (Node::While(e, body), Node::While(test, their)) => e.same(test) && body.same(their),
+            (Node::For(start, test, steps, body), Node::For(begin, end, all, their)) => {
+                start.same(begin)
+                    && same_maybe(test, end)
+                    && same_all(steps.items(), all.items())
+                    && body.same(their)
+            }
+            (Node::Each(is_final, ty, name, e, body), Node::Each(fixed, to, word, over, their)) => {
+                *is_final == *fixed
+                    && same_type(ty, to)
+                    && same_text(name, word)
+                    && e.same(over)
+                    && body.same(their)
+            }
+            (Node::Return(e), Node::Return(their)) => same_maybe(e, their),
+            (Node::Throw(e), Node::Throw(their)) => e.same(their),
+            (Node::Break, Node::Break) => true,
+            (Node::Continue, Node::Continue) => true,
+            (Node::Empty, Node::Empty) => true,
+            (Node::SuperInit(args), Node::SuperInit(others)) => {
+                same_all(args.items(), others.items())
+            }
+            _ => false,
         }
     }
 }

@@ -14,23 +14,12 @@ pub fn same_text(text: &Text, other: &Text) -> bool
 pub fn same_type(ty: &TypeName, other: &TypeName) -> bool
     ensures { IsTrue result ↔ ty.now ≡ other.now }
 {
-    match ty {
-        TypeName::Prim(name) => match other {
-            TypeName::Prim(their) => same_text(name, their),
-            _ => false,
-        },
-        TypeName::Named(name) => match other {
-            TypeName::Named(their) => same_text(name, their),
-            _ => false,
-        },
-        TypeName::ArrayOf(item) => match other {
-            TypeName::ArrayOf(their) => same_type(item.get(), their.get()),
-            _ => false,
-        },
-        TypeName::Void => match other {
-            TypeName::Void => true,
-            _ => false,
-        },
+    match (ty, other) {
+        (TypeName::Prim(name), TypeName::Prim(their)) => same_text(name, their),
+        (TypeName::Named(name), TypeName::Named(their)) => same_text(name, their),
+        (TypeName::ArrayOf(item), TypeName::ArrayOf(their)) => same_type(item.get(), their.get()),
+        (TypeName::Void, TypeName::Void) => true,
+        _ => false,
     }
 }
 

@@ -9,8 +9,7 @@ use crate::unit::{ClassDecl, Ctor, Field, Member, Method, Param, Unit};
 impl Unit {
     /// Whether the units are equal but for places.
     pub fn same(&self, other: &Unit) -> bool
-        ensures value { IsTrue result ↔ spec.SameUnit self.now other.now }
-        ensures equivalence { spec.IsEquivalence spec.SameUnit × spec.IsEquivalence spec.SameBlock × spec.IsEquivalence spec.SameExpr }
+        ensures { IsTrue result ↔ spec.SameUnit self.now other.now }
     {
         if !same_texts(self.head.items(), other.head.items()) {
             return false;
@@ -52,15 +51,10 @@ impl ClassDecl {
 fn same_parent(parent: &Option<TypeName>, other: &Option<TypeName>) -> bool
     ensures { IsTrue result ↔ parent.now ≡ other.now }
 {
-    match parent {
-        Some(ty) => match other {
-            Some(their) => same_type(ty, their),
-            None => false,
-        },
-        None => match other {
-            Some(_) => false,
-            None => true,
-        },
+    match (parent, other) {
+        (Some(ty), Some(their)) => same_type(ty, their),
+        (None, None) => true,
+        _ => false,
     }
 }
 
@@ -83,19 +77,11 @@ impl Member {
     fn same(&self, other: &Member) -> bool
         ensures { IsTrue result ↔ spec.unplaced_member self.now ≡ spec.unplaced_member other.now }
     {
-        match self {
-            Member::Field(field) => match other {
-                Member::Field(their) => field.same(their),
-                _ => false,
-            },
-            Member::Method(method) => match other {
-                Member::Method(their) => method.same(their),
-                _ => false,
-            },
-            Member::Ctor(ctor) => match other {
-                Member::Ctor(their) => ctor.same(their),
-                _ => false,
-            },
+        match (self, other) {
+            (Member::Field(field), Member::Field(their)) => field.same(their),
+            (Member::Method(method), Member::Method(their)) => method.same(their),
+            (Member::Ctor(ctor), Member::Ctor(their)) => ctor.same(their),
+            _ => false,
         }
     }
 }
@@ -150,15 +136,10 @@ impl Method {
 fn same_body(block: &Option<Block>, other: &Option<Block>) -> bool
     ensures { IsTrue result ↔ option_map spec.unplaced_block block.now ≡ option_map spec.unplaced_block other.now }
 {
-    match block {
-        Some(block) => match other {
-            Some(their) => block.same(their),
-            None => false,
-        },
-        None => match other {
-            Some(_) => false,
-            None => true,
-        },
+    match (block, other) {
+        (Some(block), Some(their)) => block.same(their),
+        (None, None) => true,
+        _ => false,
     }
 }
 
