@@ -12,10 +12,11 @@ use std::alloc::{AllocError, Global};
 use std::fs::OpenFile;
 use std::io::{ErrorKind, Read, Write};
 use std::marker::Model;
+use std::path::AsPath;
 use std::rt::Runtime;
 use std::{fs, io};
 
-/// How often a read asks for more.
+/// How many turns the reading or the writing of one file takes at most.
 const MOST_TURNS: u32 = 2_147_483_648;
 
 /// How many entries a listing visits.
@@ -23,10 +24,14 @@ const MOST_ENTRIES: u32 = 1_048_576;
 
 /// The files of the system. Paths are as the system reads them, from the folder that the program runs in.
 ///
-/// A link is not followed by a listing: it is listed as a file. A listing fails past 1,048,576
-/// entries, and at a name that is not UTF-8. A read fails past 2,147,483,648 turns, each of which but
-/// the last takes a byte or more. Want of memory in a write is a failed write; in a listing or a read it
-/// is `FileFail::OutOfMemory` and raises no count.
+/// A file is a regular file, and a link counts as what it leads to. A pipe, a device and a socket are no
+/// files: they are not listed and not opened, a read finds no file there, and a write there fails. So is
+/// a link that leads to nothing no file. A listing goes into linked folders too.
+///
+/// A listing fails past 1,048,576 entries, and at a name that is not UTF-8. A read and a write fail past
+/// 2,147,483,648 turns, each of which but the last takes a byte or more. What the system refuses is a
+/// failed call, for whatever cause. Want of memory of this program in a write is a failed write; in a
+/// listing or a read it is `FileFail::OutOfMemory` and raises no count.
 #[derive(Drop)]
 pub struct DirFiles<'a, R> {
     rt: &'a R,
@@ -56,8 +61,15 @@ impl<'a, R> DirFiles<'a, R> {
 }
 
 impl From<io::Error> for FileFail {
+    ghost use Rattle.std.specs.Prelude.{◌≡◌, IsSome};
+    ghost use Rattle.std.specs.IoError.{raw_os_error};
+    ghost use Rattle.mol_outside.specs.declared.outside.FileFail.TheVariants.{Failed as Fails};
+
+    // what the system refuses is a failed call, for whatever cause
+    ghost from_gives = { λ error fail. IsSome (raw_os_error error) → fail ≡ Fails };
+
     fn from(error: io::Error) -> FileFail {
-        if error.kind() == ErrorKind::OutOfMemory {
+        if error.raw_os_error().is_none() && error.kind() == ErrorKind::OutOfMemory {
             FileFail::OutOfMemory
         } else {
             FileFail::Failed
@@ -79,12 +91,36 @@ fn read_all<F: Read>(file: &mut F, alloc: Global) -> Result<List<u8>, FileFail> 
     Err(FileFail::Failed)
 }
 
-/// All bytes of the file at a path, and `None` where there is no file.
+/// What stands at a path. A link counts as what it leads to.
+#[derive(Clone, Copy, Debug, PartialEq, Eq)]
+enum Standing {
+    Nothing,
+    File,
+    Folder,
+    /// A pipe, a device or a socket.
+    Special,
+}
+
+/// What stands at a path.
+fn standing_at<R: Runtime, P: AsPath>(rt: &R, path: P) -> io::Result<Standing> {
+    match fs::metadata(rt, path) {
+        Ok(found) if found.is_file() => Ok(Standing::File),
+        Ok(found) if found.is_dir() => Ok(Standing::Folder),
+        Ok(_) => Ok(Standing::Special),
+        Err(error) if error.kind() == ErrorKind::NotFound => Ok(Standing::Nothing),
+        Err(error) => Err(error),
+    }
+}
+
+/// All bytes of the file at a path, and `None` where there is no file. A folder fails.
 fn read_file<R: Runtime>(rt: &R, alloc: Global, path: &Text) -> Result<Option<List<u8>>, FileFail> {
-    match fs::open(rt, path.as_str()) {
-        Ok(mut file) => Ok(Some(read_all(&mut file, alloc)?)),
-        Err(error) if error.kind() == ErrorKind::NotFound => Ok(None),
-        Err(error) => Err(FileFail::from(error)),
+    match standing_at(rt, path.as_str())? {
+        Standing::Nothing | Standing::Special => Ok(None),
+        Standing::Folder => Err(FileFail::Failed),
+        Standing::File => {
+            let mut file = fs::open(rt, path.as_str())?;
+            Ok(Some(read_all(&mut file, alloc)?))
+        }
     }
 }
 
@@ -111,10 +147,10 @@ fn scan<R: Runtime>(
         *left -= 1;
         let entry = entry?;
         let path = joined(alloc, folder, entry.file_name())?;
-        if entry.file_type()?.is_dir() {
-            folders.push(path)?;
-        } else {
-            files.push(Text::from_string(path))?;
+        match standing_at(rt, entry.path())? {
+            Standing::Folder => folders.push(path)?,
+            Standing::File => files.push(Text::from_string(path))?,
+            Standing::Nothing | Standing::Special => (),
         }
     }
     Ok(())
@@ -240,19 +276,25 @@ fn write_file<R: Runtime>(rt: &R, path: &str, bytes: &[u8]) -> io::Result<()> {
             fs::create_dir_all(rt, folder)?;
         }
     }
+    if standing_at(rt, path)? == Standing::Special {
+        return Err(io::Error::from(ErrorKind::InvalidInput));
+    }
     let mut file = fs::create(rt, path)?;
     write_whole(&mut file, bytes)
 }
 
-/// Writes all bytes. A write that takes nothing fails.
+/// Writes all bytes, in at most 2^31 turns. A write that takes nothing fails.
 pub(crate) fn write_whole<W: Write>(out: &mut W, bytes: &[u8]) -> io::Result<()> {
     let mut rest = bytes;
-    while !rest.is_empty() {
-        let n = out.write(rest)?;
-        if n == 0 {
+    for _ in 0u32..MOST_TURNS {
+        if rest.is_empty() {
+            return Ok(());
+        }
+        let taken = out.write(rest)?;
+        if taken == 0 {
             return Err(io::Error::from(ErrorKind::WriteZero));
         }
-        rest = &rest[n..];
+        rest = &rest[taken..];
     }
-    Ok(())
+    Err(io::Error::from(ErrorKind::FileTooLarge))
 }

@@ -9,8 +9,6 @@ mod outside;
 mod place;
 mod span;
 mod std_sink;
-#[cfg(test)]
-mod tests;
 
 pub use dir_files::DirFiles;
 pub use mem_files::MemFiles;
