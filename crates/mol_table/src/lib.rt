@@ -6,8 +6,6 @@ mod entity;
 mod kind;
 mod outside;
 mod table;
-#[cfg(test)]
-mod tests;
 mod value;
 mod words;
 

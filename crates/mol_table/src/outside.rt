@@ -9,9 +9,10 @@ use std::alloc::Global;
 pub enum IType {
     /// A class of the program.
     Class(Id),
-    /// A class outside that is reached by an import: the package, and the name in it.
+    /// A type outside that is reached by an import: the full name of what is imported, and the rest of the
+    /// type's name after it. `java.util.Date` has the empty text as its rest.
     Imported(Text, Text),
-    /// A class outside, named as it is written.
+    /// A type outside, named as it is written.
     Written(Text),
 }
 
@@ -22,9 +23,9 @@ impl IType {
     {
         match self {
             IType::Class(id) => Ok(IType::Class(*id)),
-            IType::Imported(package, name) => Ok(IType::Imported(
-                package.copy(alloc)?,
-                name.copy(alloc)?,
+            IType::Imported(full, rest) => Ok(IType::Imported(
+                full.copy(alloc)?,
+                rest.copy(alloc)?,
             )),
             IType::Written(name) => Ok(IType::Written(name.copy(alloc)?)),
         }

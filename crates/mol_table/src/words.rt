@@ -10,7 +10,8 @@ pub struct Words {
     pub texts: List<Text>,
 }
 
-/// Comments of an entity: before it, and for a class also at the head and at the tail of its braces.
+/// Comments of an entity. `front` stands before it. A class has `head` too, before `package`, and `tail`, at the
+/// end of its braces or after them.
 #[derive(Debug, Drop)]
 pub struct Notes {
     pub front: List<Text>,

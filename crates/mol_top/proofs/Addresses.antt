@@ -9,7 +9,9 @@ use Rattle.std.proofs.lemmas.Str.Ascii.{IsAscii-cons, IsAscii-nil}
 use Rattle.std.proofs.lemmas.Slice.Eq.{bytes_eq-Decides}
 use Rattle.std.proofs.Common.{⊎_elim}
 use Rattle.mol_top.specs.Names.{is_lower, is_upper, is_digit, is_segment, is_package, is_class_name}
-use Rattle.mol_top.specs.ClassFiles.{FilePair, Address, IsClassFile, address_in, cut_address, path_of, text_of}
+use Rattle.mol_base.specs.Limits.{max_name_bytes}
+use Rattle.mol_base.specs.Paths.{path_of}
+use Rattle.mol_top.specs.ClassFiles.{FilePair, Address, IsClassFile, address_in, cut_address, text_of}
 use Rattle.mol_top.proofs.Cuts.{before_there, after_there}
 
 -- ---- bytes of names
@@ -59,7 +61,7 @@ segments_all ok imply (part ∷ parts) h =
 
 package_all : (ok : ℕ → Bool) → ((byte : ℕ) → (is_lower byte || is_digit byte) ≡ true → ok byte ≡ true) → ok 46 ≡ true → (xs : List ℕ) → is_package xs ≡ true → list_all ok xs ≡ true
 package_all ok imply dot xs h =
-    joined ok dot xs (segments_all ok imply (slice_split (λ byte. nat_eq byte 46) xs) ((and_parts (nat_le (length xs) 255) _ h).1))
+    joined ok dot xs (segments_all ok imply (slice_split (λ byte. nat_eq byte 46) xs) ((and_parts (nat_le (length xs) max_name_bytes) _ h).1))
 
 name_all : (ok : ℕ → Bool) → ((byte : ℕ) → (is_upper byte || (is_lower byte || is_digit byte)) ≡ true → ok byte ≡ true) → (xs : List ℕ) → is_class_name xs ≡ true → list_all ok xs ≡ true
 name_all ok imply [] h = refl

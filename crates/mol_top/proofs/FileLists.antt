@@ -15,7 +15,8 @@ use Rattle.std.proofs.lemmas.Bool.{eqb-true}
 use Rattle.std.proofs.lemmas.Str.Ascii.{IsAscii-cons, IsAscii-nil}
 use Rattle.std.proofs.Math.Seq.{drop-cons, drop-length, take-append_seam, get_or-append_seam, drop-append-add}
 use Rattle.mol_outside.specs.Contents.{Contents}
-use Rattle.mol_top.specs.ClassFiles.{FilePair, path_of, slash_for_dot, file_of, bundled}
+use Rattle.mol_base.specs.Paths.{path_of, slash_for_dot}
+use Rattle.mol_top.specs.ClassFiles.{FilePair, file_of, bundled}
 use Rattle.mol_top.specs.Rows.{class_in, classes_in, file_pair, file_pairs}
 use Rattle.mol_base.specs.declared.file.File.{File}
 use Rattle.std.proofs.lemmas.List.{take_more}

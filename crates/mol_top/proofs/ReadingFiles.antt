@@ -8,7 +8,9 @@ use Rattle.std.specs.List.{Contains}
 use Rattle.std.proofs.lemmas.Grind.{common_steps}
 use Rattle.std.proofs.lemmas.Bool.Decides.{nat_tests}
 use Rattle.std.proofs.lemmas.List.Folds.{find-append}
+use Rattle.mol_base.specs.Limits.{most}
 use Rattle.mol_base.specs.declared.file.File.{File}
+use Rattle.mol_base.specs.declared.limit.Which.TheVariants.{Files}
 use Rattle.mol_outside.specs.Contents.{Contents}
 use Rattle.mol_top.specs.ClassFiles.{FilePair}
 use Rattle.mol_top.specs.Command.{joined}
@@ -82,6 +84,6 @@ pub Contains-joined : (base : List ℕ) (paths : List (List ℕ)) (path : List �
 Contains-joined base paths path among = (among.0, rw (length-map paths (joined base)) among.1, get_or-map (joined base) paths among.0 path (joined base path) among.1 ∙ ap (joined base) among.2)
 
 -- what still refuses the reading of a base, once its paths are listed
-pub reading-listed : (base : List ℕ) (h : Contents) (paths : List (List ℕ)) → base_paths base h ≡ paths → 0 < length paths → length paths ≤ 4096
+pub reading-listed : (base : List ℕ) (h : Contents) (paths : List (List ℕ)) → base_paths base h ≡ paths → 0 < length paths → length paths ≤ most Files
     → reading_refusal base h ≡ absent_file base h paths
 reading-listed base h paths is some few = grind (arith, common_steps, nat_tests)

@@ -5,19 +5,13 @@ use Rattle.std.specs.Cmp.Lexicographic.{pointwise}
 use Rattle.std.specs.FinMap.{entries, from_entries}
 use Rattle.std.specs.Fmt.{decimal}
 use Rattle.sha2.specs.Sha256.{sha256}
+use Rattle.mol_base.specs.Paths.{path_of}
 use Rattle.mol_outside.specs.Contents.{Contents}
 use Rattle.mol_table.specs.Program.{Program}
 use Rattle.mol_top.specs.Names.{is_class_name, is_package}
 use Rattle.mol_top.specs.Faults.{Class, classes_of}
 
--- # The text and the path of a class without members
-
-abbrev pub slash_for_dot : ℕ → ℕ
-slash_for_dot byte = if byte == 46 then 47 else byte
-
--- the package with `/` for `.`, then `/`, the name and `.java`
-abbrev pub path_of : List ℕ → List ℕ → List ℕ
-path_of «package» name = map slash_for_dot «package» ++ 47 ∷ name ++ codes ".java"
+-- # The text of a class without members
 
 -- `package Q;`, an empty line, `class NAME {` and `}`, each line ending in LF
 abbrev pub text_of : List ℕ → List ℕ → List ℕ

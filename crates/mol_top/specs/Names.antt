@@ -1,7 +1,8 @@
 -- Names of packages and classes.
-use Rattle.std.specs.Prelude.{ℕ, Bool, false, ◌&&◌, ◌||◌, not, nat_le, nat_eq, List, [], ◌∷◌, length, codes}
-use Rattle.std.specs.List.{list_all, list_any, slice_split}
-use Rattle.std.specs.Cmp.Lexicographic.{pointwise}
+use Rattle.std.specs.Prelude.{ℕ, Bool, false, ◌&&◌, ◌||◌, not, nat_le, nat_eq, List, [], ◌∷◌, length}
+use Rattle.std.specs.List.{list_all, slice_split}
+use Rattle.mol_base.specs.Limits.{max_name_bytes}
+use Rattle.mol_base.specs.ReservedWords.{is_reserved}
 
 abbrev pub is_upper : ℕ → Bool
 is_upper byte = nat_le 65 byte && nat_le byte 90
@@ -16,26 +17,14 @@ is_digit byte = nat_le 48 byte && nat_le byte 57
 abbrev pub is_class_name : List ℕ → Bool
 is_class_name [] = false
 is_class_name (first ∷ rest) =
-    is_upper first && (list_all (λ byte. is_upper byte || (is_lower byte || is_digit byte)) rest && nat_le (length (first ∷ rest)) 255)
-
--- the keywords (JLS 3.9), and the literals `true`, `false` and `null` (JLS 3.10)
-abbrev pub reserved_words : List (List ℕ)
-reserved_words =
-    codes "abstract" ∷ codes "assert" ∷ codes "boolean" ∷ codes "break" ∷ codes "byte" ∷ codes "case" ∷ codes "catch" ∷
-    codes "char" ∷ codes "class" ∷ codes "const" ∷ codes "continue" ∷ codes "default" ∷ codes "do" ∷ codes "double" ∷
-    codes "else" ∷ codes "enum" ∷ codes "extends" ∷ codes "final" ∷ codes "finally" ∷ codes "float" ∷ codes "for" ∷
-    codes "goto" ∷ codes "if" ∷ codes "implements" ∷ codes "import" ∷ codes "instanceof" ∷ codes "int" ∷ codes "interface" ∷
-    codes "long" ∷ codes "native" ∷ codes "new" ∷ codes "package" ∷ codes "private" ∷ codes "protected" ∷ codes "public" ∷
-    codes "return" ∷ codes "short" ∷ codes "static" ∷ codes "strictfp" ∷ codes "super" ∷ codes "switch" ∷
-    codes "synchronized" ∷ codes "this" ∷ codes "throw" ∷ codes "throws" ∷ codes "transient" ∷ codes "try" ∷ codes "void" ∷
-    codes "volatile" ∷ codes "while" ∷ codes "true" ∷ codes "false" ∷ codes "null" ∷ []
+    is_upper first && (list_all (λ byte. is_upper byte || (is_lower byte || is_digit byte)) rest && nat_le (length (first ∷ rest)) max_name_bytes)
 
 -- a lower-case letter and then lower-case letters and digits, all ASCII, and no reserved word
 abbrev pub is_segment : List ℕ → Bool
 is_segment [] = false
 is_segment (first ∷ rest) =
-    is_lower first && (list_all (λ byte. is_lower byte || is_digit byte) rest && not (list_any (λ word. pointwise nat_eq word (first ∷ rest)) reserved_words))
+    is_lower first && (list_all (λ byte. is_lower byte || is_digit byte) rest && not (is_reserved (first ∷ rest)))
 
 -- segments joined by `.`, at most 255 bytes
 abbrev pub is_package : List ℕ → Bool
-is_package bytes = nat_le (length bytes) 255 && list_all is_segment (slice_split (λ byte. nat_eq byte 46) bytes)
+is_package bytes = nat_le (length bytes) max_name_bytes && list_all is_segment (slice_split (λ byte. nat_eq byte 46) bytes)

@@ -3,6 +3,7 @@ use Rattle.std.specs.Prelude.{ℕ, List, [], ◌∷◌, length, Option, None, So
 use Rattle.std.specs.Option.{option_or}
 use Rattle.std.specs.Cmp.Lexicographic.{pointwise}
 use Rattle.std.specs.FinMap.{get}
+use Rattle.mol_base.specs.Limits.{most}
 use Rattle.mol_base.specs.declared.limit.Which.TheVariants.{Files}
 use Rattle.mol_outside.specs.Contents.{Contents, paths_below}
 use Rattle.mol_table.specs.Program.{Program}
@@ -23,9 +24,9 @@ use Rattle.mol_top.specs.declared.status.Status.TheVariants.{LogRefused, Missing
 abbrev pub no_base : List ℕ → Contents → Option Status
 no_base base held = if nat_eq (length (base_paths base held)) 0 then Some (Missing base) else None
 
--- there are more files than 4,096
+-- there are more files than the limit
 abbrev pub too_many : List ℕ → Contents → Option Status
-too_many base held = if nat_lt 4096 (length (base_paths base held)) then Some (Limit Files (length (base_paths base held))) else None
+too_many base held = if nat_lt (most Files) (length (base_paths base held)) then Some (Limit Files (length (base_paths base held))) else None
 
 -- a listed file is absent
 abbrev pub absent_file : List ℕ → Contents → List (List ℕ) → Option Status

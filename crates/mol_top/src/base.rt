@@ -2,6 +2,8 @@
 ghost use Rattle.std.specs.Prelude.{◌≡◌, ◌≤◌, IfOk, IfErr, None, Some, length};
 ghost use Rattle.std.specs.List.{filter_map};
 ghost use Rattle.std.specs.Option.{ForSome};
+ghost use Rattle.mol_base.specs.Limits.{most};
+ghost use Rattle.mol_base.specs.declared.limit.Which.TheVariants as limits;
 ghost use Rattle.mol_top.specs.ClassFiles.{address_in, digest_of};
 ghost use Rattle.mol_top.specs.Given.{IsBase, HasInputs, input_refusal, read_log_refusal, log_there};
 ghost use Rattle.mol_top.specs.Inputs.{base_program};
@@ -42,7 +44,7 @@ pub struct Inputs {
 
 /// The base that the files are, of which there are at most 4,096.
 fn base_in(alloc: Global, read: &[File]) -> Result<Base, Status>
-    requires { length read.now ≤ 4096 }
+    requires { length read.now ≤ most limits.Files }
     ensures ok { IfOk result (λ base. (unbuilt_file (file_pairs read.now) ≡ None) × IsBase (file_pairs read.now) base) }
     ensures err { IfErr result (RefusesBy (unbuilt_file (file_pairs read.now))) }
 {

@@ -1,6 +1,8 @@
 //! The program of the files of a base.
 ghost use Rattle.std.specs.Prelude.{◌≡◌, ◌≤◌, length, None, find, IfOk, OnOk, IfErr};
 ghost use Rattle.std.specs.List.{filter_map};
+ghost use Rattle.mol_base.specs.Limits.{most};
+ghost use Rattle.mol_base.specs.declared.limit.Which.TheVariants as limits;
 ghost use Rattle.mol_top.specs.Inputs.{base_program, class_entity as class_entity_of, class_entities as class_entities_of};
 ghost use Rattle.mol_top.specs.Addresses.{address_pair, address_pairs, is_unbuilt, IsBaseFault};
 ghost use Rattle.mol_top.specs.ClassFiles.{address_in as address_in_pair};
@@ -62,7 +64,7 @@ pub fn read_addresses(alloc: Global, files: &[File]) -> Result<Vec<Address>, Bas
 /// The table of the classes of these addresses, numbered from 1 on: each lives and has no superclass,
 /// no words and no comments.
 pub fn base_table(alloc: Global, addresses: Vec<Address>) -> Result<Table, OutOfMemory>
-    requires { length addresses.items ≤ 4096 }
+    requires { length addresses.items ≤ most limits.Files }
     ensures { IfOk result (λ table. table ≡ base_program (address_pairs addresses.items)) }
 {
     let mut table = Table::new(alloc);
@@ -72,7 +74,7 @@ pub fn base_table(alloc: Global, addresses: Vec<Address>) -> Result<Table, OutOf
 
 /// The classes of these addresses, numbered from 1 on.
 fn class_entities(alloc: Global, addresses: Vec<Address>) -> Result<List<NewEntity>, OutOfMemory>
-    requires { length addresses.items ≤ 4096 }
+    requires { length addresses.items ≤ most limits.Files }
     ensures { IfOk result (λ entities. entities ≡ class_entities_of 1 (address_pairs addresses.items)) }
 {
     let mut entities = List::new(alloc);

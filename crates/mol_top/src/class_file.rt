@@ -1,14 +1,15 @@
 //! Files of classes without members.
-ghost use Rattle.std.specs.Prelude.{◌≡◌, ◌&&◌, ◌==◌, ◌<◌, nat_eq, drop, length, map, option_map, Some, IfOk, IfSome, IsUtf8};
+ghost use Rattle.std.specs.Prelude.{◌≡◌, ◌&&◌, ◌==◌, ◌<◌, nat_eq, drop, length, option_map, Some, IfOk, IfSome, IsUtf8};
 ghost use Rattle.std.specs.List.{before_first, after_first, position};
 ghost use Rattle.std.specs.Cmp.Lexicographic.{pointwise};
+ghost use Rattle.mol_base.specs.Paths as paths;
 ghost use Rattle.mol_top.specs.ClassFiles as spec;
-ghost use Rattle.mol_top.specs.ClassFiles.{Address as AddressPair, IsClassFile, path_of, text_of, slash_for_dot};
+ghost use Rattle.mol_top.specs.ClassFiles.{Address as AddressPair, IsClassFile, text_of};
 ghost use Rattle.mol_top.specs.Addresses.{address_pair};
 ghost use Rattle.mol_top.specs.Rows.{file_pair};
 
 use crate::names::{is_class_name, is_package};
-use mol_base::{File, OutOfMemory, Text};
+use mol_base::{File, OutOfMemory, Text, path_of};
 use std::alloc::Global;
 
 /// The package and the name of a class.
@@ -78,34 +79,11 @@ fn place_of(bytes: &[u8], byte: u8) -> Option<usize>
 
 /// Whether the file is the one of the class of this package and this name.
 fn is_file_of(alloc: Global, file: &File, package: &[u8], name: &[u8]) -> Result<bool, OutOfMemory>
-    ensures { IfOk result (λ same. same ≡ (pointwise nat_eq (text_of «package».now name.now) file.now.bytes && pointwise nat_eq (path_of «package».now name.now) file.now.path)) }
+    ensures { IfOk result (λ same. same ≡ (pointwise nat_eq (text_of «package».now name.now) file.now.bytes && pointwise nat_eq (paths.path_of «package».now name.now) file.now.path)) }
 {
     let text = class_text(alloc, package, name)?;
-    let path = class_path(alloc, package, name)?;
+    let path = path_of(alloc, package, name)?;
     Ok(text.as_slice() == file.bytes.items() && path.as_slice() == file.path.bytes())
-}
-
-/// The path of the file of a class: its package with `/` for `.`, `/`, its name and `.java`.
-pub fn class_path(alloc: Global, package: &[u8], name: &[u8]) -> Result<Vec<u8>, OutOfMemory>
-    ensures { IfOk result (λ path. path.items ≡ path_of «package».now name.now) }
-{
-    let mut path = slashes_for_dots(alloc, package)?;
-    path.push(b'/')?;
-    path.extend_from_slice(name)?;
-    path.extend_from_slice(b".java")?;
-    Ok(path)
-}
-
-/// The bytes with `/` for each `.`.
-fn slashes_for_dots(alloc: Global, bytes: &[u8]) -> Result<Vec<u8>, OutOfMemory>
-    ensures { IfOk result (λ path. path.items ≡ map slash_for_dot bytes.now) }
-{
-    Ok(
-        bytes
-            .iter()
-            .map(|byte| if *byte == b'.' { b'/' } else { *byte })
-            .collect(alloc)?,
-    )
 }
 
 /// The text of a class without members.

@@ -8,9 +8,9 @@ ghost use Rattle.mol_top.specs.Rows.{file_pair, file_pairs, class_in, classes_in
 ghost use Rattle.mol_outside.specs.Contents.{Contents};
 
 use crate::append::push_number;
-use crate::class_file::{class_path, class_text, utf8_text};
+use crate::class_file::{class_text, utf8_text};
 use crate::rows::Row;
-use mol_base::{File, List, OutOfMemory, Text};
+use mol_base::{File, List, OutOfMemory, Text, path_of};
 use sha2::{Digest, Sha256};
 use std::alloc::Global;
 use std::collections::BTreeMap;
@@ -46,7 +46,7 @@ fn file_of(alloc: Global, row: &Row<'_>) -> Result<File, OutOfMemory>
     ensures { IfOk result (λ file. file_pair file ≡ file_of_class (class_in row.now)) }
 {
     let (package, name) = (row.package.bytes(), row.name.bytes());
-    let path = class_path(alloc, package, name)?;
+    let path = path_of(alloc, package, name)?;
     Ok(File {
         path: utf8_text(alloc, path.as_slice())?,
         bytes: List::from_vec(class_text(alloc, package, name)?),
@@ -82,49 +82,4 @@ fn push_file(alloc: Global, bundle: &mut Vec<u8>, file: &File) -> Result<(), Out
     bundle.push(b'\n')?;
     bundle.extend_from_slice(file.bytes.items())?;
     Ok(())
-}
-
-#[cfg(test)]
-mod tests {
-    use super::*;
-    use mol_base::{Id, Tag};
-    use std::test::Fail;
-
-    #[test]
-    fn bundles_and_digests_a_file(rt: HostRuntime) -> Result<(), Fail> {
-        let alloc = rt.alloc();
-        let (package, name) = (Text::from_str(alloc, "k")?, Text::from_str(alloc, "K")?);
-        let id = Id {
-            tag: Tag::base(),
-            num: 1,
-        };
-        let row = Row {
-            id,
-            package: &package,
-            name: &name,
-        };
-        let files = files_of(alloc, &[row])?;
-        let bundle = bundle_files(alloc, files.as_slice())?;
-        assert_eq!(rt;
-            bundle.as_slice(),
-            b"k/K.java\n24\npackage k;\n\nclass K {\n}\n".as_slice()
-        );
-        let digest = digest_of_files(alloc, files.as_slice())?;
-        let hex = hex::encode(alloc, &digest)?;
-        assert_eq!(rt;
-            hex.as_str(),
-            "e37621d6603b58e0e9956f482db9473763ad6d036c8a77b61c1a302f64dd0504"
-        );
-        Ok(())
-    }
-
-    #[test]
-    fn digests_abc(rt: HostRuntime) -> Result<(), Fail> {
-        let hex = hex::encode(rt.alloc(), &Sha256::digest(b"abc".as_slice()))?;
-        assert_eq!(rt;
-            hex.as_str(),
-            "ba7816bf8f01cfea414140de5dae2223b00361a396177a9cb410ff61f20015ad"
-        );
-        Ok(())
-    }
 }

@@ -3,6 +3,7 @@ ghost use Rattle.std.specs.Prelude.{◌≡◌, ◌≤◌, ◌<◌, IfOk, IfErr, 
 ghost use Rattle.std.specs.Option.{ForSome};
 ghost use Rattle.std.specs.List.{Contains};
 ghost use Rattle.std.specs.FinMap.{get};
+ghost use Rattle.mol_base.specs.Limits.{most};
 ghost use Rattle.mol_outside.specs.Contents.{paths_below};
 ghost use Rattle.mol_top.specs.Command.{joined};
 ghost use Rattle.mol_top.specs.Inputs.{is_java, files_at, base_paths, base_files};
@@ -131,7 +132,7 @@ pub fn read_base<F: Files>(alloc: Global, base: &Text, files: &mut F) -> Result<
     ensures writes { F.write_faults files.new ≡ F.write_faults files.old }
     ensures base { IfOk result (λ read. ForSome (F.holds files.old) (λ held.
         (reading_refusal base.now held ≡ None) × (file_pairs read.items ≡ base_files base.now held))) }
-    ensures few { IfOk result (λ read. (0 < length read.items) × (length read.items ≤ 4096)) }
+    ensures few { IfOk result (λ read. (0 < length read.items) × (length read.items ≤ most Which.Files)) }
     ensures stop { IfErr result (Stops (IsBelow base.now (F.holds files.old)) (F.read_faults files.old) (F.read_faults files.new) (F.holds files.old)
         (λ held. reading_refusal base.now held)) }
 {
@@ -140,8 +141,9 @@ pub fn read_base<F: Files>(alloc: Global, base: &Text, files: &mut F) -> Result<
     if paths.is_empty() {
         return Err(Status::Missing(base.copy(alloc)?));
     }
-    if paths.len() > 4096 {
-        return Err(Status::Limit(Which::Files, paths.len() as u64));
+    let count = paths.len() as u64;
+    if count > Which::Files.most() {
+        return Err(Status::Limit(Which::Files, count));
     }
     let read = read_files(alloc, base, paths.as_slice(), files)?;
     Ok(read)

@@ -25,8 +25,6 @@ mod running;
 mod same_address;
 mod stamps;
 mod status;
-#[cfg(test)]
-mod tests;
 mod two_logs;
 mod unite;
 mod words;

@@ -1,8 +1,6 @@
 //! Logs as bytes.
 mod line;
 mod read;
-#[cfg(test)]
-mod tests;
 mod write;
 
 pub use read::read_log;

@@ -1,68 +1,9 @@
 //! Names of classes and packages.
-ghost use Rattle.std.specs.Prelude.{◌≡◌, ◌||◌, nat_eq};
-ghost use Rattle.std.specs.List.{list_all, list_any};
-ghost use Rattle.std.specs.Cmp.Lexicographic.{pointwise};
+ghost use Rattle.std.specs.Prelude.{◌≡◌, ◌||◌};
+ghost use Rattle.std.specs.List.{list_all};
 ghost use Rattle.mol_top.specs.Names as names;
 
-/// The greatest number of bytes of a class name or a package name.
-const MAX_NAME: usize = 255;
-
-/// The keywords of Java and its literals `true`, `false` and `null`.
-const RESERVED_WORDS: [&[u8]; 53] = [
-    b"abstract",
-    b"assert",
-    b"boolean",
-    b"break",
-    b"byte",
-    b"case",
-    b"catch",
-    b"char",
-    b"class",
-    b"const",
-    b"continue",
-    b"default",
-    b"do",
-    b"double",
-    b"else",
-    b"enum",
-    b"extends",
-    b"final",
-    b"finally",
-    b"float",
-    b"for",
-    b"goto",
-    b"if",
-    b"implements",
-    b"import",
-    b"instanceof",
-    b"int",
-    b"interface",
-    b"long",
-    b"native",
-    b"new",
-    b"package",
-    b"private",
-    b"protected",
-    b"public",
-    b"return",
-    b"short",
-    b"static",
-    b"strictfp",
-    b"super",
-    b"switch",
-    b"synchronized",
-    b"this",
-    b"throw",
-    b"throws",
-    b"transient",
-    b"try",
-    b"void",
-    b"volatile",
-    b"while",
-    b"true",
-    b"false",
-    b"null",
-];
+use mol_base::{MAX_NAME_BYTES, is_reserved};
 
 /// Whether the bytes are a class name of the form that is built: an upper-case ASCII letter and then
 /// ASCII letters and digits, at most 255 bytes.
@@ -71,7 +12,7 @@ pub fn is_class_name(bytes: &[u8]) -> bool
 {
     match bytes {
         [first, rest @ ..] => {
-            is_upper(*first) && all_letters_or_digits(rest) && bytes.len() <= MAX_NAME
+            is_upper(*first) && all_letters_or_digits(rest) && bytes.len() <= MAX_NAME_BYTES
         }
         [] => false,
     }
@@ -82,7 +23,7 @@ pub fn is_class_name(bytes: &[u8]) -> bool
 pub fn is_package(bytes: &[u8]) -> bool
     ensures { result ≡ names.is_package bytes.now }
 {
-    bytes.len() <= MAX_NAME
+    bytes.len() <= MAX_NAME_BYTES
         && bytes
             .split(|b| *b == b'.')
             .all(|segment| is_segment(segment))
@@ -98,12 +39,6 @@ fn is_segment(bytes: &[u8]) -> bool
         }
         [] => false,
     }
-}
-
-fn is_reserved(bytes: &[u8]) -> bool
-    ensures { result ≡ list_any (λ word. pointwise nat_eq word bytes.now) names.reserved_words }
-{
-    RESERVED_WORDS.contains(&bytes)
 }
 
 fn all_letters_or_digits(bytes: &[u8]) -> bool

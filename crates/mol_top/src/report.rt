@@ -129,6 +129,3 @@ fn limit_word(which: &Which) -> &'static [u8]
         Which::ScriptBytes => b"script-bytes",
     }
 }
-
-#[cfg(test)]
-mod tests;

@@ -1,6 +1,6 @@
 use Rattle.std.proofs.Common.{◌≡◌, ◌∙◌, sym, subst}
 use Rattle.std.specs.Str.{IsUtf8}
-use Rattle.mol_top.specs.ClassFiles.{path_of}
+use Rattle.mol_base.specs.Paths.{path_of}
 use Rattle.mol_top.proofs.FileLists.{path_utf8}
 use Rattle.mol_top.proofs.class_files.file_of.Goals as goal
 

@@ -4,6 +4,8 @@ use Rattle.std.specs.List.{Contains}
 use Rattle.std.specs.Option.{ForSome}
 use Rattle.std.proofs.lemmas.Bool.Decides.{nat_tests}
 use Rattle.std.proofs.lemmas.Result.{err_from_is_err_and}
+use Rattle.mol_base.specs.Limits.{most}
+use Rattle.mol_base.specs.declared.limit.Which.TheVariants.{Files}
 use Rattle.mol_top.specs.Command.{joined}
 use Rattle.mol_top.specs.Inputs.{is_java, base_paths}
 use Rattle.mol_top.specs.Refusals.{absent_file, reading_refusal}
@@ -17,7 +19,7 @@ returns-in_err-read-clause-stop g c =
     let p = err_from_is_err_and c.from_residual-in_err-read.result c.from_residual-in_err-read.ensures.1 in
     let ps = c.in_ok-paths.paths in
     let some : 0 < length ps.items = grind (arith, nat_tests, ps.ok.0, c.is_empty.ensures, c.if-is_empty.false) in
-    let few : length ps.items ≤ 4096 = grind (arith, ps.ok.0, c.len.ensures, c.if-len-gt4096.false) in
+    let few : length ps.items ≤ most Files = grind (arith, ps.ok.0, c.len-count.ensures, c.most.ensures, c.if-count-most.false) in
     let listed : ForSome (g.F.Files.holds c.args.files.now) (λ h. base_paths c.args.base.now h ≡ ps.items) = λ h e. sym (c.in_ok-paths.ensures ∙ ap (filter is_java) (c.items.ensures ∙ c.in_ok-listed.ensures.paths h e)) in
     rw (p.1, p.2) (Stops-later (IsBelow c.args.base.now (g.F.Files.holds c.args.files.now)) (λ q. Contains (map (joined c.args.base.now) ps.items) q) _ _ _ _ _
     (λ h. reading_refusal c.args.base.now h) (λ h. absent_file c.args.base.now h ps.items) _

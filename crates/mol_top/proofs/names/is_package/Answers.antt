@@ -5,8 +5,8 @@ use Rattle.std.proofs.Common.{rules}
 use Rattle.mol_top.specs.Names as names
 use Rattle.mol_top.proofs.names.is_package.Goals as goal
 
-pub returns-then-bytes-le-MAX_NAME : goal.returns-then-bytes-le-MAX_NAME
-returns-then-bytes-le-MAX_NAME c =
+pub returns-then-bytes-le-MAX_NAME_BYTES : goal.returns-then-bytes-le-MAX_NAME_BYTES
+returns-then-bytes-le-MAX_NAME_BYTES c =
     let all = all_from_yields_List names.is_segment _ _ c.all.result c.all.ensures.ran
     (YieldsList-from_slice_split _ (λ byte. nat_eq byte 46) c.args.bytes.now c.split.ensures.rest c.split.ensures.done c.split.ensures.closure (λ x b q k. search rules))
     (λ x b q k. search rules) in
