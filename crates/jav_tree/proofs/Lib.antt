@@ -2,7 +2,6 @@ pub mod Begins
 pub mod ChangedStatements
 pub mod Comments
 pub mod ExampleExpressions
-pub mod ExampleFeatures
 pub mod ExampleLayoutStatements
 pub mod ExampleLayouts
 pub mod ExampleMembers

@@ -1,9 +1,7 @@
-pub mod BadToken
 pub mod Blocks
 pub mod EachExpression
 pub mod ExpressionText
 pub mod Expressions
-pub mod Features
 pub mod Height
 pub mod Layout
 pub mod Lines
