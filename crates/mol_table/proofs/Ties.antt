@@ -1,22 +1,19 @@
 -- `==` on identities, slots and cells, against their orders.
-use Rattle.std.proofs.Common.{◌≡◌, rules, refl, Bool}
+use Rattle.std.proofs.Common.{◌≡◌, rules, refl, Bool, List, [], ◌∷◌}
+use Rattle.std.specs.List.{list_any}
 use denote.Enum.Declared.{tag_of}
 use Rattle.std.specs.Ordering.{eq_by_cmp, nat_cmp, on}
 use Rattle.std.specs.Cmp.{unsigned_ties}
 use Rattle.std.specs.Cmp.Rules.{comparing}
 use Rattle.mol_base.specs.Order.{id_cmp}
 use Rattle.mol_base.specs.declared.ident.Id.{Id}
-use Rattle.mol_base.specs.contracts.ident.IdPartialEq as ids
-use Rattle.mol_table.specs.Order.{slot_number, cell_cmp}
+use Rattle.mol_table.specs.Order.{id_eq, slot_number, cell_cmp}
 use Rattle.mol_table.specs.declared.cell.Cell.{Cell}
 use Rattle.mol_table.specs.declared.cell.Slot.{Slot}
 use Rattle.mol_table.specs.declared.cell.Slot.TheVariants.{Live, Package, Owner, Method, Name, Super, Result, Params, Kind, Fixed, Words, Notes, Body, Value}
 use Rattle.mol_table.specs.contracts.cell.Slot.{the_type}
 use Rattle.mol_table.specs.contracts.cell.SlotPartialEq as slots
 use Rattle.mol_table.specs.contracts.cell.CellPartialEq as cells
-
-abbrev pub id_eq : Id → Id → Bool
-id_eq = ids.TheImpl.eq-value.it
 
 abbrev pub cell_eq : Cell → Cell → Bool
 cell_eq = cells.TheImpl.eq-value.it
@@ -46,3 +43,8 @@ id_ties = search (comparing, rules) depth 9
 
 pub cell_ties : (x y : Cell) → cell_eq x y ≡ eq_by_cmp cell_cmp x y
 cell_ties = search (comparing, rules, slot_ties) depth 9
+
+-- whether one of some identities is this one
+pub any_tied : {X : Type 0} (id_of : X → Id) (id : Id) (xs : List X) → list_any (λ x. id_eq id (id_of x)) xs ≡ list_any (λ x. eq_by_cmp id_cmp id (id_of x)) xs
+any_tied id_of id [] = refl
+any_tied id_of id (x ∷ xs) = rw (id_ties id (id_of x), any_tied id_of id xs) refl

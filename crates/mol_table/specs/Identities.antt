@@ -1,17 +1,16 @@
--- The identities that have a slot.
-use Rattle.std.specs.Prelude.{◌==◌, Bool, List, [], ◌∷◌, Option, None, Some, if◌then◌else◌}
-use Rattle.std.specs.List.{filter_map}
-use Rattle.std.specs.FinMap.{keys}
+-- Lists of what is known.
+use Rattle.std.specs.Prelude.{◌≡◌, ◌↔◌, ℕ, ◌+◌, ◌<◌, List, length, slice_index_or, IsTrue, is_some}
+use Rattle.std.specs.List.{Contains}
+use Rattle.std.specs.FinMap.{get}
+use Rattle.std.specs.declared.cmp.Ordering.TheVariants.{Less}
+use Rattle.mol_base.specs.Order.{id_cmp}
 use Rattle.mol_base.specs.declared.ident.Id.{Id}
-use Rattle.mol_table.specs.Order.{slot_number}
 use Rattle.mol_table.specs.Program.{Program}
-use Rattle.mol_table.specs.declared.cell.Cell.{Cell}
-use Rattle.mol_table.specs.declared.cell.Slot.{Slot}
 
--- the identity of a cell with this slot
-abbrev pub id_at_slot : Slot → Cell → Option Id
-id_at_slot slot at = if slot_number at.slot == slot_number slot then Some at.id else None
+-- each identity comes before the next
+abbrev pub IsAscending : List Id → Type 0
+IsAscending ids = (k : ℕ) (d : Id) → k + 1 < length ids → id_cmp (slice_index_or ids k d) (slice_index_or ids (k + 1) d) ≡ Less
 
--- the identities that have this slot in a program, ascending
-abbrev pub ids_with : Program → Slot → List Id
-ids_with program slot = filter_map (id_at_slot slot) (keys program.cells)
+-- the list has each known identity and no other
+abbrev pub AreKnown : Program → List Id → Type 0
+AreKnown program ids = (id : Id) → Contains ids id ↔ IsTrue (is_some (get program.known id))

@@ -1,5 +1,5 @@
--- The order of cells.
-use Rattle.std.specs.Prelude.{◌≡◌, ℕ, List, [], ◌∷◌, slice_index_or, refl}
+-- The order of cells, and `==` on identities as the code has it.
+use Rattle.std.specs.Prelude.{◌≡◌, ℕ, Bool, List, [], ◌∷◌, slice_index_or, refl}
 use Rattle.std.proofs.Common.{rules, sym, ap, ◌∙◌}
 use Rattle.std.specs.Ordering.{nat_cmp, on, then_cmp, ordering_then}
 use Rattle.std.specs.Cmp.{IsTotalOrder}
@@ -8,9 +8,14 @@ use Rattle.std.specs.FinMap.{IsAntisymmetric, nat_cmp-IsAntisymmetric}
 use Rattle.std.specs.declared.cmp.Ordering.{Ordering}
 use Rattle.std.specs.declared.cmp.Ordering.TheVariants.{Less, Equal, Greater}
 use Rattle.mol_base.specs.Order.{id_cmp, id_cmp-IsAntisymmetric}
+use Rattle.mol_base.specs.contracts.ident.IdPartialEq as ids
+use Rattle.mol_base.specs.declared.ident.Id.{Id}
 use Rattle.mol_table.specs.declared.cell.Slot.{Slot}
 use Rattle.mol_table.specs.declared.cell.Slot.TheVariants.{Live, Package, Owner, Method, Name, Super, Result, Params, Kind, Fixed, Words, Notes, Body, Value}
 use Rattle.mol_table.specs.declared.cell.Cell.{Cell}
+
+abbrev pub id_eq : Id → Id → Bool
+id_eq = ids.TheImpl.eq-value.it
 
 -- the place of a slot in the order of slots
 abbrev pub slot_number : Slot → ℕ

@@ -1,21 +1,36 @@
 //! Values of cells.
-ghost use Rattle.std.specs.Prelude.{◌≡◌, IfOk, IsTrue, ◌↔◌};
-ghost use Rattle.mol_table.specs.Program.{slot_of};
+ghost use Rattle.std.specs.Prelude.{◌≡◌};
+ghost use Rattle.mol_table.specs.Slots.{slot_of};
 
-use crate::{IType, Notes, Slot, Words};
-use mol_base::{OutOfMemory, Text};
-use std::alloc::Global;
+use crate::{IBody, IExpr, IType, MethodKind, Notes, Param, Slot, Words};
+use mol_base::{Id, List, Text};
 
 /// What a cell holds. Each variant is the form of the slot of its name.
 #[derive(Drop)]
 pub enum Value {
+    /// Whether the class, declaration or field lives.
     Live(bool),
     Package(Text),
+    /// The class in which a declaration or a field stands.
+    Owner(Id),
+    /// The method of a declaration.
+    Method(Id),
+    /// The name; that of a constructor is empty.
     Name(Text),
     /// The superclass, if one is named.
     Super(Option<IType>),
+    /// The type of what a method gives; `void` for a constructor.
+    Result(IType),
+    Params(List<Param>),
+    Kind(MethodKind),
+    /// Whether the name and arity at the adding of a method were those of one of `java.lang.Object`.
+    Fixed(bool),
     Words(Words),
     Notes(Notes),
+    /// None for an abstract method.
+    Body(Option<IBody>),
+    /// The type of a field, and its first value.
+    Value(IType, Option<IExpr>),
 }
 
 impl Value {
@@ -26,41 +41,18 @@ impl Value {
         match self {
             Value::Live(_) => Slot::Live,
             Value::Package(_) => Slot::Package,
+            Value::Owner(_) => Slot::Owner,
+            Value::Method(_) => Slot::Method,
             Value::Name(_) => Slot::Name,
             Value::Super(_) => Slot::Super,
+            Value::Result(_) => Slot::Result,
+            Value::Params(_) => Slot::Params,
+            Value::Kind(_) => Slot::Kind,
+            Value::Fixed(_) => Slot::Fixed,
             Value::Words(_) => Slot::Words,
             Value::Notes(_) => Slot::Notes,
-        }
-    }
-
-    /// A value that equals this one.
-    pub fn copy(&self, alloc: Global) -> Result<Value, OutOfMemory>
-        ensures { IfOk result (λ copy. copy ≡ self.now) }
-    {
-        match self {
-            Value::Live(live) => Ok(Value::Live(*live)),
-            Value::Package(package) => Ok(Value::Package(package.copy(alloc)?)),
-            Value::Name(name) => Ok(Value::Name(name.copy(alloc)?)),
-            Value::Super(None) => Ok(Value::Super(None)),
-            Value::Super(Some(parent)) => Ok(Value::Super(Some(parent.copy(alloc)?))),
-            Value::Words(words) => Ok(Value::Words(words.copy(alloc)?)),
-            Value::Notes(notes) => Ok(Value::Notes(notes.copy(alloc)?)),
-        }
-    }
-
-    /// Whether both are the same value. It takes no memory.
-    pub fn same(&self, other: &Value) -> bool
-        ensures { IsTrue result ↔ (self.now ≡ other.now) }
-    {
-        match (self, other) {
-            (Value::Live(this), Value::Live(that)) => *this == *that,
-            (Value::Package(this), Value::Package(that)) => this == that,
-            (Value::Name(this), Value::Name(that)) => this == that,
-            (Value::Super(None), Value::Super(None)) => true,
-            (Value::Super(Some(this)), Value::Super(Some(that))) => this.same(that),
-            (Value::Words(this), Value::Words(that)) => this.same(that),
-            (Value::Notes(this), Value::Notes(that)) => this.same(that),
-            _ => false,
+            Value::Body(_) => Slot::Body,
+            Value::Value(_, _) => Slot::Value,
         }
     }
 }

@@ -1,25 +1,26 @@
--- The known identities of a program, as the identities of its cells.
-use Rattle.std.proofs.Common.{true≢false, ◌≡◌, ◌==◌, ◌+◌, ℕ, suc, refl, sym, ap, subst, ◌∙◌, arith, Bool, true, false, cond, ◌&&◌, ◌||◌, List, [], ◌∷◌, map, get_or, None, Some, IsTrue, T, eqb-true, eq-eqb, if◌then◌else◌}
+-- The identities that have a slot in a program, among the known ones.
+use Rattle.std.proofs.Common.{true≢false, ◌≡◌, ◌==◌, ◌+◌, ℕ, suc, refl, sym, ap, subst, ◌∙◌, arith, Bool, true, false, cond, ◌&&◌, ◌||◌, List, [], ◌∷◌, map, filter, get_or, Option, None, Some, is_some, IsTrue, T, eqb-true, eq-eqb, if◌then◌else◌}
 use Rattle.std.specs.List.{list_any, filter_map, cons_option}
 use Rattle.std.specs.Ordering.{eq_by_cmp, is_eq, is_lt, nat_cmp, ordering_then}
 use Rattle.std.specs.declared.cmp.Ordering.{Ordering}
 use Rattle.std.specs.declared.cmp.Ordering.TheVariants.{Less, Equal, Greater}
 use Rattle.std.specs.Cmp.{eq_by_cmp_equiv, unsigned_tied}
-use Rattle.std.specs.FinMap.{entries, keys, find, is_sorted, entries_sorted, contains_key-keys}
+use Rattle.std.specs.FinMap.{get, entries, keys, find, is_sorted, entries_sorted, contains_key-keys}
 use Rattle.std.specs.FinMap.Entries.{below_all, same_entries}
 use Rattle.std.proofs.lemmas.Map.Views.{list_any-from_Contains, Contains-from_any}
 use Rattle.mol_base.specs.Order.{id_cmp, id_cmp-total, id_cmp-IsAntisymmetric}
 use Rattle.mol_base.specs.declared.ident.Id.{Id}
-use Rattle.mol_table.specs.Identities.{id_at_slot, ids_with}
+use Rattle.mol_table.specs.Identities.{IsAscending, AreKnown}
 use Rattle.mol_table.specs.Order.{cell_cmp, slot_number}
-use Rattle.mol_table.specs.Program.{Program, IsProgram, cell, has, is_known}
-use Rattle.mol_table.specs.Table.{IsAscending, AreKnown}
+use Rattle.mol_table.specs.Program.{Program, cell}
+use Rattle.mol_table.specs.Rules.{IsProgram}
+use Rattle.mol_table.specs.Slots.{has_slot}
 use Rattle.mol_table.specs.declared.cell.Cell.{Cell}
 use Rattle.mol_table.specs.declared.cell.Slot.{Slot}
-use Rattle.mol_table.specs.declared.cell.Slot.TheVariants as slots
+use Rattle.mol_table.specs.declared.known.Known.{Known}
 use Rattle.mol_table.specs.declared.value.Value.{Value}
-use Rattle.mol_table.specs.Rules.{id_tied}
-use Rattle.mol_top.proofs.Known.{known_package, name_package}
+use Rattle.mol_table.proofs.Living.{id_tied}
+use Rattle.mol_top.specs.Cells.{has, id_at_slot, ids_with}
 
 both : (a b : Bool) → T a → T b → T (a && b)
 both true b p q = q
@@ -135,34 +136,68 @@ any_ids slot q (k ∷ ks) =
       and_false true = refl
       and_false false = refl
 
--- ---- the known identities
+-- ---- the known identities that have a slot
 
-ids_are : (program : Program) (slot : Slot) (ids : List Id) → IsAscending ids → ((id : Id) → list_any (eq_by_cmp id_cmp id) ids ≡ has program id slot) → ids_with program slot ≡ ids
-ids_are program slot ids ascending members =
-    sym (unmarked (ids_with program slot))
-    ∙ ap (map (λ e. e.0)) (same_entries id_cmp id_cmp-total id_cmp-IsAntisymmetric (marked (ids_with program slot)) (marked ids)
-    (sorted_ids slot (entries program.cells) (entries_sorted program.cells)) (sorted_marked ids ascending)
-    (λ q. find_marked q (ids_with program slot)
-    ∙ ap (λ b. cond b (Some tt) None) (any_ids slot q (keys program.cells) ∙ sym (contains_key-keys program.cells (cell q slot)) ∙ sym (members q))
-    ∙ sym (find_marked q ids)))
-    ∙ unmarked ids
+below_kept : (p : Id → Bool) (x : Id) (ids : List Id) → T (below_all id_cmp x (marked ids)) → T (below_all id_cmp x (marked (filter p ids)))
+below_kept p x [] h = tt
+below_kept p x (id ∷ ids) h = by (p id) (below_kept p x ids (second _ _ h)) where
+  by : (b : Bool) → T (below_all id_cmp x (marked (filter p ids))) → T (below_all id_cmp x (marked (cond b (id ∷ filter p ids) (filter p ids))))
+  by true rest = both _ _ (first _ _ h) rest
+  by false rest = rest
+
+sorted_kept : (p : Id → Bool) (ids : List Id) → T (is_sorted id_cmp (marked ids)) → T (is_sorted id_cmp (marked (filter p ids)))
+sorted_kept p [] h = tt
+sorted_kept p (id ∷ ids) h = by (p id) (sorted_kept p ids (second _ _ h)) where
+  by : (b : Bool) → T (is_sorted id_cmp (marked (filter p ids))) → T (is_sorted id_cmp (marked (cond b (id ∷ filter p ids) (filter p ids))))
+  by true rest = both _ _ (below_kept p id ids (first _ _ h)) rest
+  by false rest = rest
+
+any_kept : (p : Id → Bool) (q : Id) (ids : List Id) → list_any (eq_by_cmp id_cmp q) (filter p ids) ≡ (p q && list_any (eq_by_cmp id_cmp q) ids)
+any_kept p q [] = by (p q) where
+  by : (b : Bool) → false ≡ (b && false)
+  by true = refl
+  by false = refl
+any_kept p q (id ∷ ids) = at (p id) (eq_by_cmp id_cmp q id) refl refl (any_kept p q ids) where
+  at : (b tied : Bool) → p id ≡ b → eq_by_cmp id_cmp q id ≡ tied → list_any (eq_by_cmp id_cmp q) (filter p ids) ≡ (p q && list_any (eq_by_cmp id_cmp q) ids)
+      → list_any (eq_by_cmp id_cmp q) (cond b (id ∷ filter p ids) (filter p ids)) ≡ (p q && (tied || list_any (eq_by_cmp id_cmp q) ids))
+  at true true is e rest =
+      ap (λ t. t || list_any (eq_by_cmp id_cmp q) (filter p ids)) e
+      ∙ sym (ap (λ t. t && true) (ap p (id_tied q id e) ∙ is))
+  at true false is e rest = ap (λ t. t || list_any (eq_by_cmp id_cmp q) (filter p ids)) e ∙ rest
+  at false true is e rest =
+      rest ∙ ap (λ t. t && list_any (eq_by_cmp id_cmp q) ids) (ap p (id_tied q id e) ∙ is)
+      ∙ sym (ap (λ t. t && true) (ap p (id_tied q id e) ∙ is))
+  at false false is e rest = rest
 
 same_bool : (a b : Bool) → (IsTrue a → IsTrue b) → (IsTrue b → IsTrue a) → a ≡ b
 same_bool true b there back = sym (there refl)
 same_bool false true there back = back refl
 same_bool false false there back = refl
 
-listed : (program : Program) (ids : List Id) → AreKnown program ids → (id : Id) → list_any (eq_by_cmp id_cmp id) ids ≡ is_known program id
+listed : (program : Program) (ids : List Id) → AreKnown program ids → (id : Id) → list_any (eq_by_cmp id_cmp id) ids ≡ is_some (get program.known id)
 listed program ids known id = same_bool _ _
     (λ is. (known id).0 (Contains-from_any id_tied id ids is))
     (λ is. list_any-from_Contains (eq_by_cmp_equiv id_cmp-total) id ids ((known id).1 is))
 
--- each known identity has a package ..
-pub ids_package : (program : Program) (ids : List Id) → IsProgram program → IsAscending ids → AreKnown program ids → ids_with program slots.Package ≡ ids
-ids_package program ids rules ascending known =
-    ids_are program slots.Package ids ascending (λ id. listed program ids known id ∙ known_package program rules id)
+-- what has a slot is known
+known_slot : (slot : Slot) (o : Option Known) → (has_slot o slot && is_some o) ≡ has_slot o slot
+known_slot slot None = refl
+known_slot slot (Some known) = by (has_slot (Some known) slot) where
+  by : (b : Bool) → (b && true) ≡ b
+  by true = refl
+  by false = refl
 
--- .. and a name
-pub ids_name : (program : Program) (ids : List Id) → IsProgram program → IsAscending ids → AreKnown program ids → ids_with program slots.Name ≡ ids
-ids_name program ids rules ascending known =
-    ids_are program slots.Name ids ascending (λ id. listed program ids known id ∙ known_package program rules id ∙ sym (name_package program rules id))
+-- the identities with a slot are those of the known ones that have it
+pub ids_known : (program : Program) (slot : Slot) (ids : List Id) → IsProgram program → IsAscending ids → AreKnown program ids
+    → ids_with program slot ≡ filter (λ id. has program id slot) ids
+ids_known program slot ids rules ascending known =
+    let there : Id → Bool = λ id. has program id slot in
+    sym (unmarked (ids_with program slot))
+    ∙ ap (map (λ e. e.0)) (same_entries id_cmp id_cmp-total id_cmp-IsAntisymmetric (marked (ids_with program slot)) (marked (filter there ids))
+    (sorted_ids slot (entries program.cells) (entries_sorted program.cells)) (sorted_kept there ids (sorted_marked ids ascending))
+    (λ q. find_marked q (ids_with program slot)
+    ∙ ap (λ b. cond b (Some tt) None) (any_ids slot q (keys program.cells) ∙ sym (contains_key-keys program.cells (cell q slot))
+    ∙ sym (any_kept there q ids ∙ ap (λ b. has program q slot && b) (listed program ids known q)
+    ∙ ap (λ b. b && is_some (get program.known q)) (rules.whole q slot) ∙ known_slot slot (get program.known q) ∙ sym (rules.whole q slot)))
+    ∙ sym (find_marked q (filter there ids))))
+    ∙ unmarked (filter there ids)

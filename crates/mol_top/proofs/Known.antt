@@ -8,17 +8,17 @@ use Rattle.std.specs.declared.cmp.Ordering.TheVariants.{Less, Equal, Greater}
 use Rattle.std.specs.Cmp.{tied_itself}
 use Rattle.std.specs.FinMap.{keys, get, contains_key-keys}
 use Rattle.mol_base.specs.declared.ident.Id.{Id}
-use Rattle.mol_table.specs.Identities.{id_at_slot, ids_with}
 use Rattle.mol_table.specs.Order.{cell_cmp, slot_number}
-use Rattle.mol_table.specs.Program.{Program, IsProgram, cell, value_at, has, has_slot, kind_of, is_known, slot_of}
+use Rattle.mol_table.specs.Program.{Program, cell}
+use Rattle.mol_table.specs.Rules.{IsProgram}
+use Rattle.mol_table.specs.Slots.{has_slot}
 use Rattle.mol_table.specs.declared.cell.Cell.{Cell}
 use Rattle.mol_table.specs.declared.cell.Slot.{Slot}
 use Rattle.mol_table.specs.declared.cell.Slot.TheVariants as slots
-use Rattle.mol_table.specs.declared.kind.Kind.{Kind}
-use Rattle.mol_table.specs.declared.kind.Kind.TheVariants as kinds
-use Rattle.mol_table.specs.declared.value.Value.{Value}
-use Rattle.mol_table.specs.declared.value.Value.TheVariants as values
+use Rattle.mol_table.specs.declared.known.Known.{Known}
+use Rattle.mol_table.specs.declared.known.Known.TheVariants as knowns
 use Rattle.mol_table.specs.Order.{slot_same, cell_cmp-total, cell_cmp-IsAntisymmetric}
+use Rattle.mol_top.specs.Cells.{has, id_at_slot, ids_with}
 
 pub cell_tied : (x y : Cell) → eq_by_cmp cell_cmp x y ≡ true → x ≡ y
 cell_tied x y e = cell_cmp-IsAntisymmetric x y (by (cell_cmp x y) e) where
@@ -27,57 +27,20 @@ cell_tied x y e = cell_cmp-IsAntisymmetric x y (by (cell_cmp x y) e) where
   by Equal e = refl
   by Greater e = absurd cc
 
--- ---- what is known is a class
+-- ---- what has a package is a class
 
--- the slots whose forms values have
-is_form : Slot → Bool
-is_form slots.Live = true
-is_form slots.Package = true
-is_form slots.Name = true
-is_form slots.Super = true
-is_form slots.Words = true
-is_form slots.Notes = true
-is_form slot = false
+class_by : (o : Option Known) → has_slot o slots.Package ≡ true → has_slot o slots.Name ≡ true
+class_by None e = absurd cc
+class_by (Some knowns.Class) e = refl
+class_by (Some (knowns.Method kind)) e = absurd cc
+class_by (Some (knowns.Decl method)) e = absurd cc
+class_by (Some knowns.Field) e = absurd cc
+class_by (Some (knowns.Param method)) e = absurd cc
 
-value_form : (value : Value) → is_form (slot_of value) ≡ true
-unfolding is_form
-value_form (values.Live live) = refl
-value_form (values.Package text) = refl
-value_form (values.Name text) = refl
-value_form (values.Super parent) = refl
-value_form (values.Words words) = refl
-value_form (values.Notes notes) = refl
-
-no_form : (program : Program) → IsProgram program → (id : Id) (slot : Slot) → is_form slot ≡ false → has program id slot ≡ false
-no_form program rules id slot none = by (value_at program id slot) refl where
-  by : (o : Option Value) → value_at program id slot ≡ o → is_some o ≡ false
-  by None is = refl
-  by (Some value) is = sym (value_form value) ∙ ap is_form (rules.forms id slot value is) ∙ none
-
-kind_by : Bool → Bool → Bool → Bool → Option Kind
-kind_by a b c d = if a then Some kinds.Class else if b then Some kinds.Method else if c then Some kinds.Decl else if d then Some kinds.Field else None
-
-class_or_none : Bool → Option Kind
-class_or_none a = if a then Some kinds.Class else None
-
-kind_class : (program : Program) → IsProgram program → (id : Id) → kind_of program id ≡ class_or_none (has program id slots.Package)
-unfolding class_or_none is_form
-kind_class program rules id =
-    rw (no_form program rules id slots.Result refl, no_form program rules id slots.Body refl, no_form program rules id slots.Value refl) refl
-
-pub known_package : (program : Program) → IsProgram program → (id : Id) → is_known program id ≡ has program id slots.Package
-unfolding class_or_none
-known_package program rules id = ap is_some (kind_class program rules id) ∙ by (has program id slots.Package) where
-  by : (a : Bool) → is_some (class_or_none a) ≡ a
-  by true = refl
-  by false = refl
-
-pub name_package : (program : Program) → IsProgram program → (id : Id) → has program id slots.Name ≡ has program id slots.Package
-unfolding class_or_none
-name_package program rules id = rules.whole id slots.Name ∙ ap (λ kind. has_slot kind slots.Name) (kind_class program rules id) ∙ by (has program id slots.Package) where
-  by : (a : Bool) → has_slot (class_or_none a) slots.Name ≡ a
-  by true = refl
-  by false = refl
+-- .. and has a name
+pub name_package : (program : Program) → IsProgram program → (id : Id) → IsTrue (has program id slots.Package) → IsTrue (has program id slots.Name)
+name_package program rules id is =
+    rules.whole id slots.Name ∙ class_by (get program.known id) (sym (rules.whole id slots.Package) ∙ is)
 
 -- ---- what has a slot
 

@@ -1,6 +1,7 @@
 pub mod AddressKeys
 pub mod Addresses
 pub mod Answering
+pub mod BaseNames
 pub mod BasePrograms
 pub mod Chains
 pub mod ConflictLines
@@ -17,6 +18,8 @@ pub mod Law
 pub mod Lines
 pub mod Living
 pub mod Merging
+pub mod NameTokens
+pub mod NameValues
 pub mod Nexts
 pub mod Overlaid
 pub mod Pairing

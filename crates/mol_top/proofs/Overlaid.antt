@@ -2,19 +2,23 @@
 use Rattle.std.proofs.Common.{◌≡◌, ◌≢◌, refl, sym, ap, subst, ◌∙◌, Bool, true, false, cond, ◌&&◌, List, [], ◌∷◌, map, filter, Option, None, Some, rules, is_some, IsTrue, T}
 use Rattle.std.specs.Prelude.{option_map, unwrap_or, if◌then◌else◌}
 use Rattle.std.specs.Ordering.{eq_by_cmp, is_lt}
-use Rattle.std.specs.List.{filter_map}
+use Rattle.std.specs.List.{filter_map, list_any}
 use Rattle.std.specs.FinMap.{entries, keys, get, find, is_sorted, get-entries, get-from_entries, entries_sorted}
 use Rattle.std.specs.FinMap.Entries.{below_all, same_entries}
 use Rattle.mol_base.specs.declared.ident.Id.{Id}
-use Rattle.mol_table.specs.Identities.{id_at_slot, ids_with}
+use Rattle.mol_table.specs.Life.{is_decl_of, lives, lives_as, lives_method, lists}
 use Rattle.mol_table.specs.Order.{cell_cmp}
 use Rattle.mol_table.specs.Order.{cell_cmp-total, cell_cmp-IsAntisymmetric}
-use Rattle.mol_table.specs.Program.{Program, IsProgram, cell, value_at, has, kind_of, lives, is_yes}
+use Rattle.mol_table.specs.Program.{Program, cell, value_at, is_yes, living_at, params_in, same_id}
+use Rattle.mol_table.specs.Rules.{IsProgram}
 use Rattle.mol_table.specs.declared.cell.Cell.{Cell}
 use Rattle.mol_table.specs.declared.cell.Slot.{Slot}
 use Rattle.mol_table.specs.declared.cell.Slot.TheVariants as slots
-use Rattle.mol_table.specs.declared.kind.Kind.TheVariants as kinds
+use Rattle.mol_table.specs.declared.known.Known.{Known}
+use Rattle.mol_table.specs.declared.known.Known.TheVariants as knowns
+use Rattle.mol_table.specs.declared.param.Param.{Param}
 use Rattle.mol_table.specs.declared.value.Value.{Value}
+use Rattle.mol_top.specs.Cells.{has, id_at_slot, ids_with}
 use Rattle.mol_top.specs.Faults.{text_in, class_at, classes_of}
 use Rattle.mol_top.specs.Renaming.{IsRenaming, text_or, renamed}
 use Rattle.mol_top.specs.Writes.{overlaid}
@@ -71,11 +75,6 @@ some_mapped g (Some value) = refl
 pub has_overlaid : (p : Program) (f : Cell → Option Value) (id : Id) (slot : Slot) → has (overlaid p f) id slot ≡ has p id slot
 has_overlaid p f id slot = ap is_some (value_overlaid p f id slot) ∙ some_mapped (unwrap_or (f (cell id slot))) (value_at p id slot)
 
-pub kind_overlaid : (p : Program) (f : Cell → Option Value) (id : Id) → kind_of (overlaid p f) id ≡ kind_of p id
-kind_overlaid p f id =
-    let e : (s : Slot) → has (overlaid p f) id s ≡ has p id s = has_overlaid p f id in
-    λ i. if e slots.Package i then Some kinds.Class else if e slots.Result i then Some kinds.Method else if e slots.Body i then Some kinds.Decl else if e slots.Value i then Some kinds.Field else None
-
 -- ---- renamings
 
 pub no_value : (f : Cell → Option Value) → IsRenaming f → (at : Cell) → at.slot ≢ slots.Name → f at ≡ None
@@ -98,8 +97,28 @@ live_name e = cc
 package_name : slots.Package ≢ slots.Name
 package_name e = cc
 
+params_name : slots.Params ≢ slots.Name
+params_name e = cc
+
+-- what lives under other names is what lived
 pub lives_overlaid : (p : Program) (f : Cell → Option Value) → IsRenaming f → (id : Id) → lives (overlaid p f) id ≡ lives p id
-lives_overlaid p f naming id = ap is_yes (value_kept p f naming id slots.Live live_name)
+lives_overlaid p f naming id = by (get p.known id) where
+  live : (id : Id) → living_at (overlaid p f) id ≡ living_at p id
+  live id = ap is_yes (value_kept p f naming id slots.Live live_name)
+
+  method_lives : (method : Id) → lives_method (overlaid p f) method ≡ lives_method p method
+  method_lives method i = list_any (λ entry. is_decl_of method entry.1 && live entry.0 i) (entries p.known)
+
+  listed : (method id : Id) → lists (overlaid p f) method id ≡ lists p method id
+  listed method id i = list_any (λ (param : Param). same_id id param.id) (params_in (value_kept p f naming method slots.Params params_name i))
+
+  by : (o : Option Known) → lives_as (overlaid p f) id o ≡ lives_as p id o
+  by None = refl
+  by (Some knowns.Class) = live id
+  by (Some (knowns.Method kind)) = method_lives id
+  by (Some (knowns.Decl method)) = live id
+  by (Some knowns.Field) = live id
+  by (Some (knowns.Param method)) = λ i. method_lives method i && listed method id i
 
 -- ---- classes
 
@@ -120,7 +139,7 @@ each_class p f naming rules [] have = refl
 each_class p f naming rules (id ∷ ids) have = by (lives p id) (each_class p f naming rules ids have.1) where
   by : (b : Bool) → map (class_at (overlaid p f)) (filter (lives p) ids) ≡ map (renamed f) (map (class_at p) (filter (lives p) ids))
       → map (class_at (overlaid p f)) (cond b (id ∷ filter (lives p) ids) (filter (lives p) ids)) ≡ map (renamed f) (map (class_at p) (cond b (id ∷ filter (lives p) ids) (filter (lives p) ids)))
-  by true rest = λ i. class_overlaid p f naming id (name_package p rules id ∙ have.0) i ∷ rest i
+  by true rest = λ i. class_overlaid p f naming id (name_package p rules id have.0) i ∷ rest i
   by false rest = rest
 
 pub classes_overlaid : (p : Program) (f : Cell → Option Value) → IsProgram p → IsRenaming f → classes_of (overlaid p f) ≡ map (renamed f) (classes_of p)

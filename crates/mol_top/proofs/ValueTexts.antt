@@ -6,7 +6,7 @@ use Rattle.serde_json.specs.Written.{has_float, items_have_float}
 use Rattle.serde_json.specs.View.{view, items_view}
 use Rattle.serde_json.specs.declared.value.Value.{Value as Json}
 use Rattle.mol_table.specs.declared.value.Value.{Value}
-use Rattle.mol_table.specs.declared.value.Value.TheVariants.{Live, Package, Name, Super, Words, Notes}
+use Rattle.mol_table.specs.declared.value.Value.TheVariants.{Live, Package, Owner, Method, Name, Super, Result, Params, Kind, Fixed, Words, Notes, Body, Value as FieldValue}
 use Rattle.mol_top.specs.ValueText.{text_items, type_words, value_data}
 
 texts_no_float : (texts : List (List ℕ)) → items_have_float (text_items texts) ≡ false
@@ -17,11 +17,19 @@ texts_no_float (text ∷ texts) = texts_no_float texts
 pub value_no_float : (value : Value) → has_float (value_data value) ≡ false
 value_no_float (Live live) = refl
 value_no_float (Package text) = refl
+value_no_float (Owner owner) = refl
+value_no_float (Method method) = refl
 value_no_float (Name text) = refl
 value_no_float (Super None) = refl
 value_no_float (Super (Some parent)) = texts_no_float (type_words parent)
+value_no_float (Result ty) = refl
+value_no_float (Params params) = refl
+value_no_float (Kind kind) = refl
+value_no_float (Fixed fixed) = refl
 value_no_float (Words words) = texts_no_float words.texts
 value_no_float (Notes notes) = rw (texts_no_float notes.front, texts_no_float notes.head, texts_no_float notes.tail) refl
+value_no_float (Body body) = refl
+value_no_float (FieldValue ty init) = refl
 
 -- items with one more at the end
 abbrev pushed : Items → Data → Items

@@ -1,7 +1,8 @@
 -- Addresses of classes, as the program holds them.
-use Rattle.std.specs.Prelude.{◌≡◌, ◌<◌, ⊤, Bool, List, length, map, Some, is_none, slice_get}
+use Rattle.std.specs.Prelude.{◌≡◌, ◌<◌, ◌&&◌, ⊤, Bool, List, length, map, Some, is_none, slice_get}
 use Rattle.std.specs.List.{find, position}
 use Rattle.mol_top.specs.ClassFiles.{Address as AddressPair, FilePair, address_in}
+use Rattle.mol_top.specs.Names.{is_class_name, is_package}
 use Rattle.mol_top.specs.declared.built.BaseFault.{BaseFault}
 use Rattle.mol_top.specs.declared.built.BaseFault.TheVariants.{NotBuilt, OutOfMemory}
 use Rattle.mol_top.specs.declared.class_file.Address.{Address}
@@ -12,6 +13,10 @@ address_pair address = (address.«package», address.name)
 
 abbrev pub address_pairs : List Address → List AddressPair
 address_pairs addresses = map address_pair addresses
+
+-- a package and a class name of the built form
+abbrev pub is_named : AddressPair → Bool
+is_named address = is_package address.0 && is_class_name address.1
 
 -- no class is read from the file
 abbrev pub is_unbuilt : FilePair → Bool

@@ -2,11 +2,12 @@
 use Rattle.std.specs.Prelude.{◌≡◌, ℕ, Bool, ◌&&◌, nat_eq, List, [], ◌∷◌, ◌++◌, map, filter, Option, Some}
 use Rattle.std.specs.Cmp.Lexicographic.{pointwise}
 use Rattle.mol_base.specs.declared.ident.Id.{Id}
-use Rattle.mol_table.specs.Program.{Program, value_at, lives}
-use Rattle.mol_table.specs.Identities.{ids_with}
+use Rattle.mol_table.specs.Life.{lives}
+use Rattle.mol_table.specs.Program.{Program, value_at}
 use Rattle.mol_table.specs.declared.cell.Slot.TheVariants as slots
 use Rattle.mol_table.specs.declared.value.Value.{Value}
 use Rattle.mol_table.specs.declared.value.Value.TheVariants.{Package, Name}
+use Rattle.mol_top.specs.Cells.{ids_with}
 use Rattle.mol_top.specs.declared.fault.Fault.{Fault}
 use Rattle.mol_top.specs.declared.fault.Fault.TheVariants.{SameAddress}
 

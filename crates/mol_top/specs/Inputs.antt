@@ -6,7 +6,8 @@ use Rattle.std.specs.Cmp.Lexicographic.{pointwise}
 use Rattle.std.specs.FinMap.{get}
 use Rattle.mol_base.specs.declared.ident.Id.{Id}
 use Rattle.mol_outside.specs.Contents.{Contents, paths_below}
-use Rattle.mol_table.specs.Program.{Program, nothing, with_entities}
+use Rattle.mol_table.specs.Program.{Program, nothing}
+use Rattle.mol_table.specs.Writes.{with_entities}
 use Rattle.mol_table.specs.declared.entity.NewEntity.{NewEntity}
 use Rattle.mol_table.specs.declared.kind.Kind.TheVariants as kinds
 use Rattle.mol_table.specs.declared.value.Value.TheVariants as values

@@ -1,4 +1,5 @@
 pub mod Addresses
+pub mod Cells
 pub mod ClassFiles
 pub mod Code
 pub mod Command
@@ -13,6 +14,7 @@ pub mod Merging
 pub mod Names
 pub mod NextPlaces
 pub mod Outcome
+pub mod Pairing
 pub mod Refusals
 pub mod Renaming
 pub mod Report

@@ -8,7 +8,8 @@ use Rattle.std.specs.declared.cmp.Ordering.TheVariants.{Less, Equal, Greater}
 use Rattle.std.specs.FinMap.{keys}
 use Rattle.mol_base.specs.Order.{tag_cmp, stamp_cmp}
 use Rattle.mol_base.specs.declared.ident.Stamp.{Stamp}
-use Rattle.mol_table.specs.Program.{Program, cell, lives}
+use Rattle.mol_table.specs.Life.{lives}
+use Rattle.mol_table.specs.Program.{Program, cell}
 use Rattle.mol_table.specs.Values.{same_value}
 use Rattle.mol_table.specs.declared.cell.Cell.{Cell}
 use Rattle.mol_table.specs.declared.cell.Slot.TheVariants as slots

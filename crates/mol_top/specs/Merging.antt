@@ -2,7 +2,8 @@
 use Rattle.std.specs.Prelude.{◌≡◌, ◌≢◌, List, [], map}
 use Rattle.std.specs.FinMap.{entries, from_entries}
 use Rattle.mol_outside.specs.Contents.{Contents}
-use Rattle.mol_table.specs.Program.{Program, IsProgram}
+use Rattle.mol_table.specs.Program.{Program}
+use Rattle.mol_table.specs.Rules.{IsProgram}
 use Rattle.mol_top.specs.ClassFiles.{file_list, file_of}
 use Rattle.mol_top.specs.Faults.{Class, classes_of}
 use Rattle.mol_top.specs.Merge.{conflicts, conflicts_in_order, united, united_in_order, merged_log}

@@ -1,6 +1,7 @@
 -- What new names make of a class.
 use Rattle.std.specs.Prelude.{◌≡◌, ℕ, List, Option, None, Some}
-use Rattle.mol_table.specs.Program.{cell, slot_of}
+use Rattle.mol_table.specs.Program.{cell}
+use Rattle.mol_table.specs.Slots.{slot_of}
 use Rattle.mol_table.specs.declared.cell.Cell.{Cell}
 use Rattle.mol_table.specs.declared.cell.Slot.TheVariants as slots
 use Rattle.mol_table.specs.declared.value.Value.{Value}

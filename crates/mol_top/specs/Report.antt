@@ -8,10 +8,11 @@ use Rattle.mol_base.specs.declared.ident.Id.{Id}
 use Rattle.mol_base.specs.declared.ident.Stamp.{Stamp}
 use Rattle.mol_base.specs.declared.limit.Which.{Which}
 use Rattle.mol_base.specs.declared.limit.Which.TheVariants as limits
-use Rattle.mol_table.specs.Program.{Program, has}
+use Rattle.mol_table.specs.Program.{Program}
 use Rattle.mol_table.specs.declared.cell.Cell.{Cell}
 use Rattle.mol_table.specs.declared.cell.Slot.{Slot}
 use Rattle.mol_table.specs.declared.cell.Slot.TheVariants as slots
+use Rattle.mol_top.specs.Cells.{has}
 use Rattle.mol_top.specs.ValueText.{value_data}
 use Rattle.mol_top.specs.Faults.{class_at}
 use Rattle.mol_top.specs.declared.conflict.Conflict.{Conflict}

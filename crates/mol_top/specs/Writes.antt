@@ -53,7 +53,7 @@ last (entry ∷ entries) at = option_or (last entries at) (written entry at)
 
 -- the program with other values where the function has one
 abbrev pub overlaid : Program → (Cell → Option Value) → Program
-overlaid program values = record { cells = from_entries (map (λ entry. (entry.0, unwrap_or (values entry.0) entry.1)) (entries program.cells)) }
+overlaid program values = record program { cells = from_entries (map (λ entry. (entry.0, unwrap_or (values entry.0) entry.1)) (entries program.cells)) }
 
 -- what the last writes of these entries have for a cell
 abbrev pub value_by : List Entry → Cell → Option Value

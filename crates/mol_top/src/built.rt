@@ -1,10 +1,10 @@
 //! The program of the files of a base.
-ghost use Rattle.std.specs.Prelude.{◌≡◌, ◌≤◌, length, None, find, IfOk, OnOk, IfErr};
-ghost use Rattle.std.specs.List.{filter_map};
+ghost use Rattle.std.specs.Prelude.{◌≡◌, ◌≤◌, length, None, find, IfOk, OnOk, IfErr, IsTrue};
+ghost use Rattle.std.specs.List.{filter_map, list_all};
 ghost use Rattle.mol_base.specs.Limits.{most};
 ghost use Rattle.mol_base.specs.declared.limit.Which.TheVariants as limits;
 ghost use Rattle.mol_top.specs.Inputs.{base_program, class_entity as class_entity_of, class_entities as class_entities_of};
-ghost use Rattle.mol_top.specs.Addresses.{address_pair, address_pairs, is_unbuilt, IsBaseFault};
+ghost use Rattle.mol_top.specs.Addresses.{address_pair, address_pairs, is_named, is_unbuilt, IsBaseFault};
 ghost use Rattle.mol_top.specs.ClassFiles.{address_in as address_in_pair};
 ghost use Rattle.mol_top.specs.Rows.{file_pairs};
 
@@ -62,9 +62,10 @@ pub fn read_addresses(alloc: Global, files: &[File]) -> Result<Vec<Address>, Bas
 }
 
 /// The table of the classes of these addresses, numbered from 1 on: each lives and has no superclass,
-/// no words and no comments.
+/// no words and no comments. The addresses are packages and class names of the form that is built.
 pub fn base_table(alloc: Global, addresses: Vec<Address>) -> Result<Table, OutOfMemory>
-    requires { length addresses.items ≤ most limits.Files }
+    requires count { length addresses.items ≤ most limits.Files }
+    requires names { IsTrue (list_all is_named (address_pairs addresses.items)) }
     ensures { IfOk result (λ table. table ≡ base_program (address_pairs addresses.items)) }
 {
     let mut table = Table::new(alloc);

@@ -1,7 +1,8 @@
 //! The living classes of a table.
 ghost use Rattle.std.specs.Prelude.{◌≡◌, IfOk, IfSome, IsSome, IsTrue, option_copied};
-ghost use Rattle.mol_table.specs.Program.{IsProgram, has};
+ghost use Rattle.mol_table.specs.Rules.{IsProgram};
 ghost use Rattle.mol_table.specs.declared.cell.Slot.TheVariants as slots;
+ghost use Rattle.mol_top.specs.Cells.{has};
 ghost use Rattle.mol_top.specs.Faults.{class_at, classes_of};
 ghost use Rattle.mol_top.specs.Rows.{class_in, classes_in};
 ghost use Rattle.mol_top.specs.Texts.{text_at, text_of_value};
@@ -28,11 +29,12 @@ pub fn rows_of<'a>(alloc: Global, table: &'a Table) -> Result<Vec<Row<'a>>, OutO
     Ok(rows)
 }
 
-/// A class of the table with its address. `None` where the identity is not known.
+/// A class of the table with its address. `None` exactly where the identity is no known class.
 fn row_of<'a>(table: &'a Table, id: &Id) -> Option<Row<'a>>
     requires { IsProgram table.now }
     ensures class { IfSome result (λ row. class_in row ≡ class_at table.now id.now) }
     ensures there { IsTrue (has table.now id.now slots.Package) → IsSome result }
+    ensures only { IfSome result (λ row. IsTrue (has table.now id.now slots.Package)) }
 {
     let package = text_at(table, id, Slot::Package)?;
     let name = text_at(table, id, Slot::Name)?;

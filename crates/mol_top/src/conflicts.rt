@@ -4,7 +4,8 @@ ghost use Rattle.std.specs.Option.{option_to_list};
 ghost use Rattle.mol_table.specs.Program.{cell};
 ghost use Rattle.mol_table.specs.declared.cell.Slot.TheVariants as slots;
 ghost use Rattle.mol_top.specs.Faults.{faults as faults_of};
-ghost use Rattle.mol_top.specs.LastWrites.{write_in};
+ghost use Rattle.mol_top.specs.LastWrites.{name_in, write_in};
+ghost use Rattle.mol_top.specs.Pairing.{named_twice};
 ghost use Rattle.mol_top.specs.Merge.{conflicts_in_order, united_in_order, pairs_in_order, twice_at, differing, bad as bad_of};
 
 use crate::last_writes::LastWrites;
@@ -35,7 +36,7 @@ pub fn conflicts(
 }
 
 /// The cells that the logs set to two values, in their order, as conflicts. The time is that of a few
-/// look-ups for each class.
+/// look-ups for each known identity.
 fn pairs(
     alloc: Global,
     base: &Table,
@@ -46,7 +47,7 @@ fn pairs(
 {
     let mut pairs = Vec::new(alloc);
     for id in base.ids() {
-        push_some(&mut pairs, pair(alloc, base, id, one, other)?)?;
+        push_some(&mut pairs, named_pair(alloc, base, id, one, other)?)?;
     }
     Ok(pairs)
 }
@@ -60,6 +61,26 @@ fn push_some<T: Drop>(items: &mut Vec<T>, item: Option<T>) -> Result<(), OutOfMe
         None => {}
     }
     Ok(())
+}
+
+/// The conflict of the last names that the logs give what has a name.
+fn named_pair(
+    alloc: Global,
+    base: &Table,
+    id: &Id,
+    one: &LastWrites,
+    other: &LastWrites,
+) -> Result<Option<Conflict>, OutOfMemory>
+    ensures { IfOk result (λ pair. pair ≡ named_twice base.now one.now other.now id.now) }
+{
+    let cell = Cell {
+        id: *id,
+        slot: Slot::Name,
+    };
+    if base.get(&cell).is_none() {
+        return Ok(None);
+    }
+    pair(alloc, base, id, one, other)
 }
 
 /// The conflict of the last names that the logs give a class, where it lives and both give one.
@@ -100,12 +121,30 @@ fn twice(
         id: *id,
         slot: Slot::Name,
     };
-    let these = Value::Name(this.op.name().copy(alloc)?);
-    let those = Value::Name(that.op.name().copy(alloc)?);
-    Ok(Some(Conflict {
-        kind: ConflictKind::Twice(cell, these, those),
-        stamps: List::from_slice(alloc, &[this.stamp, that.stamp])?,
-    }))
+    let stamps = List::from_slice(alloc, &[this.stamp, that.stamp])?;
+    let kind = two_names(alloc, cell, this, that)?;
+    Ok(Some(Conflict { kind, stamps }))
+}
+
+/// The names that two entries give, as the two values of a cell.
+fn two_names(
+    alloc: Global,
+    cell: Cell,
+    this: &Entry,
+    that: &Entry,
+) -> Result<ConflictKind, OutOfMemory>
+    ensures { IfOk result (λ kind. kind ≡ ConflictKind.Twice cell (name_in this.now.op) (name_in that.now.op)) }
+{
+    let these = name_value(alloc, this)?;
+    let those = name_value(alloc, that)?;
+    Ok(ConflictKind::Twice(cell, these, those))
+}
+
+/// The name that an entry gives, as a value.
+fn name_value(alloc: Global, entry: &Entry) -> Result<Value, OutOfMemory>
+    ensures { IfOk result (λ value. value ≡ name_in entry.now.op) }
+{
+    Ok(Value::Name(entry.op.name().copy(alloc)?))
 }
 
 /// The faults as conflicts, in their order, by the entries that brought them.

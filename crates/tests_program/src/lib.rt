@@ -2,6 +2,8 @@
 //! of their own, since a crate with tests is proved twice.
 #![tactic(auto)]
 
+#[cfg(test)]
+mod given;
 mod ids;
 #[cfg(test)]
 mod links;

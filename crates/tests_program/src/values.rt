@@ -1,6 +1,6 @@
 //! Slots, cells, kinds and values: their order, and which are equal.
+use crate::given::{Given, GivenType, hash_of, type_of, value_of};
 use crate::id_of;
-use crate::table::{Given, GivenType, hash_of, type_of, value_of};
 use mol_base::OutOfMemory;
 use mol_table::{Cell, IType, Kind, MethodKind, Slot, Value};
 use std::alloc::Global;
@@ -97,7 +97,9 @@ fn a_kind_equals_itself_alone(rt: HostRuntime) {
 }
 
 /// Types of which no two are the same.
-const TYPES: [GivenType; 9] = [
+const TYPES: [GivenType; 12] = [
+    GivenType::Int,
+    GivenType::Void,
     GivenType::Class("", 1),
     GivenType::Class("", 2),
     GivenType::Class("a", 1),
@@ -107,21 +109,42 @@ const TYPES: [GivenType; 9] = [
     GivenType::Imported("", "aB"),
     GivenType::Written("aB"),
     GivenType::Written("a.B"),
+    GivenType::Array("aB"),
 ];
 
 /// Values of which no two are the same, with the slot whose form each has.
-const VALUES: [(Slot, Given); 21] = [
+const VALUES: [(Slot, Given); 45] = [
     (Slot::Live, Given::Live(true)),
     (Slot::Live, Given::Live(false)),
     (Slot::Package, Given::Package("")),
     (Slot::Package, Given::Package("k")),
     (Slot::Package, Given::Package("k.l")),
+    (Slot::Owner, Given::Owner(1)),
+    (Slot::Owner, Given::Owner(2)),
+    (Slot::Method, Given::Method(1)),
+    (Slot::Method, Given::Method(2)),
     (Slot::Name, Given::Name("k")),
     (Slot::Name, Given::Name("K")),
     (Slot::Super, Given::NoSuper),
     (Slot::Super, Given::Super(GivenType::Class("", 1))),
     (Slot::Super, Given::Super(GivenType::Class("", 2))),
     (Slot::Super, Given::Super(GivenType::Written("k"))),
+    (Slot::Result, Given::Result(GivenType::Void)),
+    (Slot::Result, Given::Result(GivenType::Int)),
+    (Slot::Result, Given::Result(GivenType::Class("", 1))),
+    (Slot::Params, Given::Params(1, "a", GivenType::Int, "0")),
+    (Slot::Params, Given::Params(2, "a", GivenType::Int, "0")),
+    (Slot::Params, Given::Params(1, "b", GivenType::Int, "0")),
+    (
+        Slot::Params,
+        Given::Params(1, "a", GivenType::Array("k"), "0"),
+    ),
+    (Slot::Params, Given::Params(1, "a", GivenType::Int, "-1")),
+    (Slot::Kind, Given::Kind(MethodKind::Instance)),
+    (Slot::Kind, Given::Kind(MethodKind::Static)),
+    (Slot::Kind, Given::Kind(MethodKind::Constructor)),
+    (Slot::Fixed, Given::Fixed(true)),
+    (Slot::Fixed, Given::Fixed(false)),
     (Slot::Words, Given::Words("")),
     (Slot::Words, Given::Words("public")),
     (Slot::Words, Given::Words("public final")),
@@ -132,6 +155,13 @@ const VALUES: [(Slot, Given); 21] = [
     (Slot::Notes, Given::Notes("", "", "//a")),
     (Slot::Notes, Given::Notes("//a //b", "", "")),
     (Slot::Notes, Given::Notes("//a", "//b", "")),
+    (Slot::Body, Given::NoBody),
+    (Slot::Body, Given::Body("0")),
+    (Slot::Body, Given::Body("1")),
+    (Slot::Value, Given::Field(GivenType::Int)),
+    (Slot::Value, Given::Field(GivenType::Written("k"))),
+    (Slot::Value, Given::Value(GivenType::Int, "0")),
+    (Slot::Value, Given::Value(GivenType::Int, "1")),
 ];
 
 /// Whether this type is the same as the one at this place of the table, and as no other.
@@ -172,10 +202,18 @@ fn is_copy_at(alloc: Global, one: &Value, at: usize) -> Result<bool, OutOfMemory
     is_value_at(alloc, &one.copy(alloc)?, at)
 }
 
+/// Whether this value and its copy are the same as the value at this place of the table, and as no other.
+fn are_same_at(alloc: Global, one: &Value, at: usize) -> Result<bool, OutOfMemory> {
+    Ok(is_value_at(alloc, one, at)? && is_copy_at(alloc, one, at)?)
+}
+
 /// Whether the value at this place of the table has this slot, and it and its copy are the same as it alone.
 fn is_row(alloc: Global, slot: Slot, given: Given, at: usize) -> Result<bool, OutOfMemory> {
     let one = value_of(alloc, given)?;
-    Ok(one.slot() == slot && is_value_at(alloc, &one, at)? && is_copy_at(alloc, &one, at)?)
+    if one.slot() != slot {
+        return Ok(false);
+    }
+    are_same_at(alloc, &one, at)
 }
 
 #[test]

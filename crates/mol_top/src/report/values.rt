@@ -30,10 +30,11 @@ fn value_json(alloc: Global, value: &Value) -> Result<Json, OutOfMemory>
         Value::Super(Some(parent)) => type_json(alloc, parent),
         Value::Words(words) => texts_json(alloc, words.texts.items()),
         Value::Notes(notes) => notes_json(alloc, notes),
+        _ => Ok(Json::Null),
     }
 }
 
-/// The array of the words of a type.
+/// The array of the words of a superclass.
 fn type_json(alloc: Global, type_: &IType) -> Result<Json, OutOfMemory>
     ensures { IfOk result (λ json. view json ≡ texts_data (type_words type_.now)) }
 {
@@ -46,6 +47,7 @@ fn type_json(alloc: Global, type_: &IType) -> Result<Json, OutOfMemory>
             Ok(json!(in alloc; ["imported", package.as_str(), name.as_str()])?)
         }
         IType::Written(name) => Ok(json!(in alloc; ["written", name.as_str()])?),
+        _ => Ok(Json::Array(Vec::new(alloc))),
     }
 }
 

@@ -1,6 +1,7 @@
 use Rattle.std.proofs.Common.{◌≡◌, ap, sym, ◌∙◌, false, true, cond, subst}
 use Rattle.std.specs.Prelude.{Option, None, Some, IfOk}
-use Rattle.mol_table.specs.Program.{cell, lives}
+use Rattle.mol_table.specs.Life.{lives}
+use Rattle.mol_table.specs.Program.{cell}
 use Rattle.mol_table.specs.declared.cell.Cell.{Cell}
 use Rattle.mol_table.specs.declared.cell.Slot.TheVariants as slots
 use Rattle.mol_top.specs.LastWrites.{write_in}

@@ -1,5 +1,5 @@
 use Rattle.std.proofs.Common.{ℕ, ◌<◌, get_or}
-use Rattle.mol_table.specs.Table.{AgreeAt}
+use Rattle.mol_table.specs.Agreement.{AgreeAt}
 use Rattle.mol_table.specs.declared.cell.Slot.{Slot}
 use Rattle.mol_table.proofs.table.Table.agree.Given as goal
 

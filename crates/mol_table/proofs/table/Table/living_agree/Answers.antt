@@ -1,20 +1,21 @@
-use Rattle.std.proofs.Common.{◌≡◌, true, ◌∙◌, sym, ap, subst, refl, arith, IsTrue}
-use Rattle.std.specs.List.{Contains}
-use Rattle.std.proofs.lemmas.Map.Views.{Contains-from_any}
-use Rattle.mol_table.specs.Program.{lives, is_known}
-use Rattle.mol_table.specs.Table.{AgreeIfLiving}
-use Rattle.mol_table.proofs.Programs.{living_known}
-use Rattle.mol_table.specs.Rules.{id_tied}
+use Rattle.std.proofs.Common.{subst, refl, arith, IsTrue}
+use Rattle.mol_base.specs.declared.ident.Id.{Id}
+use Rattle.mol_table.specs.Agreement.{AgreeIfLiving}
+use Rattle.mol_table.specs.Life.{is_living_entity}
+use Rattle.mol_table.proofs.Agreeing.{living-known, below-next}
 use Rattle.mol_table.proofs.table.Table.living_agree.Goals as goal
 
 pub returns : goal.returns
 returns c = (
-  λ _ id. record {
-    agree = λ living.
-        let known : is_known c.args.self.now id ≡ true = subst (λ p. IsTrue (lives p id) → is_known p id ≡ true) c.self.view_is (living_known _ c.self.invariant.rules id) living in
-        let at = subst (λ ids. Contains ids id) (sym c.as_slice-id-items.ensures.keys)
-        (Contains-from_any id_tied id _ (c.self.invariant.known.members id ∙ ap (λ p. is_known p id) c.self.view_is ∙ known)) in
-        (subst (λ x. AgreeIfLiving c.args.self.now c.args.other.now x) at.2 (c.loop-id.invariant at.0 id (omega (arith, at.1)))).agree living;
-  },
+  λ _ id. from id (λ living.
+      let at = (c.ids-id-items.ensures.known id).1 (living-known c.args.self.now id living) in
+      subst (λ x. AgreeIfLiving c.args.self.now c.args.other.now x) at.2 (c.loop-id.invariant at.0 id (omega (arith, at.1)))),
   λ _. refl,
-)
+) where
+  from : (id : Id) → (IsTrue (is_living_entity c.args.self.now id) → AgreeIfLiving c.args.self.now c.args.other.now id) → AgreeIfLiving c.args.self.now c.args.other.now id
+  from id agree = record { living = λ living. (agree living).living living; agree = λ living. (agree living).agree living }
+
+pub loop-id-preserved : goal.loop-id-preserved
+loop-id-preserved c =
+    below-next (AgreeIfLiving c.args.self.now c.args.other.now) c.ids-id-items.result.now c.loop-id.id-index c.id-item.result c.loop-id-test.true c.id-item.is
+    (c.agree_if_living.ensures.0 c.if-not-agree_if_living.false) c.loop-id.invariant

@@ -1,0 +1,19 @@
+use Rattle.std.proofs.Common.{◌≡◌, ◌≤◌, length}
+use Rattle.std.specs.Vec.Iter.{into_iter_items}
+use Rattle.indexmap.specs.IndexMap.{spare}
+use Rattle.mol_table.specs.Counting.{Counted}
+use Rattle.mol_table.specs.Maps.{program_in, counts_in, IsOrdered, values_in, names_of, AreFresh, AreApart}
+use Rattle.mol_table.specs.Writes.{with_entities}
+use Rattle.mol_table.proofs.maps.Maps.put_entities.Given as goal
+
+abbrev pub invariant-loop-entity : goal.invariant-loop-entity
+invariant-loop-entity l = record {
+  program : with_entities (program_in l.self) (into_iter_items l.entity-iterator) ≡ with_entities (program_in l.fn.self) l.fn.entities.items;
+  counted : Counted (program_in l.self) (counts_in l.self);
+  ordered : IsOrdered l.fn.self → IsOrdered l.self;
+  fresh : AreFresh (program_in l.self).known (into_iter_items l.entity-iterator);
+  differ : AreApart (into_iter_items l.entity-iterator);
+  cells : values_in (into_iter_items l.entity-iterator) ≤ spare l.self.cells;
+  names : names_of (into_iter_items l.entity-iterator) ≤ spare l.self.known;
+  living : length (into_iter_items l.entity-iterator) ≤ spare l.self.living;
+}

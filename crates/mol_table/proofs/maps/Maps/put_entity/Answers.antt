@@ -1,0 +1,36 @@
+use Rattle.std.proofs.Common.{◌≡◌, ◌∙◌, sym, ap, subst, arith}
+use Rattle.std.specs.FinMap.{get}
+use Rattle.mol_table.specs.Counting.{Counted, number_at, counted_by}
+use Rattle.mol_table.specs.Maps.{program_in, counts_in, IsOrdered}
+use Rattle.mol_table.specs.Program.{living_at}
+use Rattle.mol_table.specs.Writes.{with_entity}
+use Rattle.mol_table.proofs.Changing.{entity-unchanged, entity-written}
+use Rattle.mol_table.proofs.Counted.{number-le, counted-entity}
+use Rattle.mol_table.proofs.maps.Maps.put_entity.Goals as goal
+
+pub count_added-requires-clause-small : goal.count_added-requires-clause-small
+count_added-requires-clause-small c method =
+    let most = number-le c.args.self.now c.requires.counted method in
+    let unchanged = entity-unchanged c.args.self.now c.know_as.new.self c.write_all.new.self c.know_as.ensures.rest c.write_all.ensures.rest in
+    let same = ap (λ cs. number_at cs method) unchanged in
+    omega (arith, most, same, c.len-size.ensures.len, c.len-size.ensures.small)
+
+pub returns-clause-program : goal.returns-clause-program
+returns-clause-program c =
+    let written = entity-written c.args.self.now c.know_as.new.self c.write_all.new.self c.args.entity c.into_vec.result.items c.know_as.ensures.known c.know_as.ensures.rest c.write_all.ensures.program c.into_vec.ensures in
+    ap program_in c.count_added.ensures.rest ∙ written
+
+pub returns-clause-counted : goal.returns-clause-counted
+returns-clause-counted c =
+    let unchanged = entity-unchanged c.args.self.now c.know_as.new.self c.write_all.new.self c.know_as.ensures.rest c.write_all.ensures.rest in
+    let written = entity-written c.args.self.now c.know_as.new.self c.write_all.new.self c.args.entity c.into_vec.result.items c.know_as.ensures.known c.know_as.ensures.rest c.write_all.ensures.program c.into_vec.ensures in
+    let id = c.args.entity.id in
+    let new = with_entity (program_in c.args.self.now) c.args.entity in
+    let program = ap program_in c.count_added.ensures.rest ∙ written in
+    let counts : counts_in c.count_added.new.self ≡ counted_by (counts_in c.args.self.now) id (get new.known id) (living_at new id) =
+    c.count_added.ensures.counts ∙ (λ i. counted_by (unchanged i) id (get (written i).known id) (living_at (written i) id)) in
+    subst (λ p. Counted p (counts_in c.count_added.new.self)) (sym program) (subst (Counted new) (sym counts)
+    (counted-entity (program_in c.args.self.now) (counts_in c.args.self.now) c.requires.counted c.args.entity c.requires.fresh))
+
+pub returns-clause-ordered : goal.returns-clause-ordered
+returns-clause-ordered c ordered = subst IsOrdered (sym c.count_added.ensures.rest) (c.write_all.ensures.ordered (c.know_as.ensures.ordered ordered))

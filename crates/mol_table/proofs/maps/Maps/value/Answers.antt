@@ -1,0 +1,8 @@
+use Rattle.std.proofs.Common.{◌∙◌}
+use Rattle.mol_table.specs.Order.{cell_cmp, cell_cmp-total}
+use Rattle.mol_table.proofs.Lookups.{get_is}
+use Rattle.mol_table.proofs.Ties.{cell_eq, cell_ties}
+use Rattle.mol_table.proofs.maps.Maps.value.Goals as goal
+
+pub returns : goal.returns
+returns c = c.get.ensures.value ∙ get_is cell_cmp cell_eq cell_ties cell_cmp-total c.args.cell.now c.args.self.now.cells.entries

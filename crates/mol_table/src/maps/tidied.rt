@@ -1,0 +1,48 @@
+//! The maps of a table with each value tidied.
+ghost use Rattle.std.specs.Prelude.{◌≡◌, IfOk, map};
+ghost use Rattle.std.specs.FinMap.{from_entries, entries};
+ghost use Rattle.mol_table.specs.Maps.{cells_of, program_in, counts_in, IsOrdered};
+ghost use Rattle.mol_table.specs.Tidy.{tidy};
+ghost use Rattle.mol_table.specs.Tidying.{entry_by};
+
+use crate::maps::Maps;
+use crate::maps::copy::{copy_known, copy_numbers};
+use crate::{Cell, Value};
+use indexmap::IndexMap;
+use mol_base::{Id, OutOfMemory};
+use std::alloc::Global;
+
+impl Maps {
+    /// Maps with each value tidied. The time is that of a look-up for each cell and each identity, and
+    /// one for each call in the values.
+    pub fn tidied(&self, alloc: Global) -> Result<Maps, OutOfMemory>
+        ensures program { IfOk result (λ tidied. program_in tidied ≡ tidy (program_in self.now)) }
+        ensures counts { IfOk result (λ tidied. counts_in tidied ≡ counts_in self.now) }
+        ensures ordered { IfOk result IsOrdered }
+    {
+        let index = self.bare_constructors(alloc)?;
+        Ok(Maps {
+            cells: tidied_cells(alloc, self, &index)?,
+            known: copy_known(alloc, &self.known)?,
+            living: copy_numbers(alloc, &self.living)?,
+        })
+    }
+}
+
+/// The tidied values in the same cells.
+fn tidied_cells(
+    alloc: Global,
+    maps: &Maps,
+    index: &IndexMap<Id, Id>,
+) -> Result<IndexMap<Cell, Value>, OutOfMemory>
+    ensures { IfOk result (λ tidied. cells_of tidied.entries
+        ≡ from_entries (map (entry_by maps.now index.now.entries) (entries (program_in maps.now).cells))) }
+{
+    let mut tidied = IndexMap::with_capacity(alloc, maps.cells.len())?;
+    for cell in maps.cells.keys().as_slice() {
+        if let Some(value) = maps.cells.get(cell) {
+            drop(tidied.insert(*cell, value.tidied(alloc, maps, index)?)?);
+        }
+    }
+    Ok(tidied)
+}
