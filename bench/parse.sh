@@ -1,0 +1,146 @@
+#!/bin/sh
+# Lexes and parses a generated megabyte of ordinary Java, and those of the machine's own Java sources that are of the
+# subset (of the `src.zip` of a JDK, of `*-sources.jar`, and single files below /usr), beside the time that javac's parser
+# takes for the same files in one run; and then a megabyte, and half of one, of one thing after the other: the ratio of
+# both times, about 2 where the time is linear. Without javac, or without such sources, their part is left out.
+# Usage: bench/parse.sh PROGRAM, where PROGRAM is the built crate parse_count: crates/parse_count/out/parse_count after
+# `rt run` there, or `rt ci`.
+set -eu
+program=$(readlink -f "$1")
+work=$(mktemp -d)
+trap 'rm -rf "$work"' EXIT
+cat > "$work/ParseOnly.java" <<'JAVA'
+import com.sun.source.util.JavacTask;
+import java.nio.file.*;
+import java.util.List;
+import javax.tools.*;
+public class ParseOnly {
+    public static void main(String[] args) throws Exception {
+        JavaCompiler compiler = ToolProvider.getSystemJavaCompiler();
+        List<String> names = Files.readAllLines(Path.of(args[0]));
+        long first = 0, best = Long.MAX_VALUE;
+        for (int i = 0; i < 15; i++) {
+            StandardJavaFileManager files = compiler.getStandardFileManager(null, null, null);
+            JavacTask task = (JavacTask) compiler.getTask(null, files, null, List.of("-proc:none"), null, files.getJavaFileObjectsFromStrings(names));
+            long start = System.nanoTime();
+            task.parse();
+            long took = System.nanoTime() - start;
+            if (i == 0) first = took;
+            best = Math.min(best, took);
+        }
+        System.out.println(first / 1000 + " " + best / 1000);
+    }
+}
+JAVA
+if command -v javac >/dev/null && command -v java >/dev/null; then
+    javac -d "$work" "$work/ParseOnly.java"
+else
+    echo "no javac: its times are left out"
+fi
+python3 - "$program" "$work" <<'PY'
+import glob, os, subprocess, sys, time, zipfile
+
+program, work = sys.argv[1:]
+MILLION = 1 << 20
+
+
+def run(sources):
+    """Hands the sources to the program; the lines that it prints."""
+    answer = subprocess.run([program], input=b"\0".join(sources), capture_output=True)
+    if answer.returncode:
+        sys.exit(f"the program ends with {answer.returncode}")
+    return answer.stdout.decode().splitlines()
+
+
+def micros(sources, runs=5):
+    """The least time of several runs of the whole process, in microseconds."""
+    path = f"{work}/input"
+    with open(path, "wb") as out:
+        out.write(b"\0".join(sources))
+    best = None
+    for _ in range(runs):
+        with open(path, "rb") as source:
+            start = time.perf_counter()
+            subprocess.run([program], stdin=source, stdout=subprocess.DEVNULL, check=True)
+            took = time.perf_counter() - start
+        best = took if best is None else min(best, took)
+    return int(best * 1e6)
+
+
+def compare(what, sources):
+    lines = run(sources)
+    if not all(line.startswith("tokens ") for line in lines):
+        sys.exit(f"{what}: {[line for line in lines if not line.startswith('tokens ')][0]}")
+    names = []
+    for k, source in enumerate(sources):
+        os.makedirs(f"{work}/{what}/{k}", exist_ok=True)
+        names.append(f"{work}/{what}/{k}/Source.java")
+        with open(names[-1], "wb") as out:
+            out.write(source)
+    with open(f"{work}/names", "w") as out:
+        out.write("\n".join(names))
+    size, tokens = sum(map(len, sources)), sum(int(line.split()[1]) for line in lines)
+    ours = micros(sources)
+    print(f"{what}: {len(sources)} files, {size} bytes, {tokens} tokens")
+    print(f"  lex and parse, whole process, best of 5: {ours} us, {size * 1000000 // ours} bytes/s", flush=True)
+    if not os.path.exists(f"{work}/ParseOnly.class"):
+        return
+    first, best = map(int, subprocess.run(["java", "-cp", work, "ParseOnly", f"{work}/names"], capture_output=True, check=True).stdout.split())
+    print(f"  javac parser, first run in its process: {first} us; best of 15: {best} us")
+    print(f"  ratio to the first run {ours / first:.2f}, to the best run {ours / best:.2f}", flush=True)
+
+
+parts, size, k = ["package gen;\n\npublic class Source {\n"], 0, 0
+while size < MILLION:
+    k += 1
+    part = (f"    private int value{k} = {k};\n\n    /* The sum of step and a value. */\n"
+            f"    public int get{k}(int step, String name) {{\n        // {k} steps\n        int sum = 0;\n"
+            f"        for (int i = 0; i < step; i++) {{\n            sum += this.value{k} * i - 0x{k:x};\n        }}\n"
+            f"        if (sum >= 10 && !name.equals(\"n{k}\\n\")) {{\n            return sum;\n        }}\n"
+            f"        return new Source().get{max(1, k - 1)}(step >> 1, \"a\");\n    }}\n\n")
+    parts.append(part)
+    size += len(part)
+parts.append("}\n")
+print(f"cores {os.cpu_count()}, load {os.getloadavg()[0]:.1f}")
+compare("generated", ["".join(parts).encode()])
+
+def java_sources():
+    """The Java sources of the machine's packages, each once: of archives, and single files."""
+    archives, files = set(glob.glob("/usr/lib/jvm/*/src.zip") + glob.glob("/usr/lib/jvm/*/lib/src.zip")), set()
+    for folder, _, names in os.walk("/usr"):
+        archives.update(f"{folder}/{name}" for name in names if name.endswith("-sources.jar"))
+        files.update(f"{folder}/{name}" for name in names if name.endswith(".java"))
+    sources = {}
+    for path in sorted({os.path.realpath(path) for path in archives if os.path.exists(path)}):
+        with zipfile.ZipFile(path) as archive:
+            for name in archive.namelist():
+                if name.endswith(".java"):
+                    sources.setdefault(archive.read(name))
+    for path in sorted({os.path.realpath(path) for path in files if os.path.exists(path)}):
+        with open(path, "rb") as source:
+            sources.setdefault(source.read())
+    return [source for source in sources if b"\0" not in source and len(source) <= MILLION]
+
+
+found = java_sources()
+if found:
+    real = [source for source, line in zip(found, run(found)) if line.startswith("tokens ")]
+    print(f"Java sources of the machine: {len(found)} files, of which {len(real)} are of the subset")
+    if real:
+        compare("real", real)
+else:
+    print("no Java sources on this machine")
+
+head, tail = "package p; class A { void f() { ", " } }"
+value = "package p; class A { int x = "
+runs = {
+    "(": (value, "("), "[": (value + "a", "["), "a[": (value, "a["), "a.": (head, "a."), "!": (value, "!"), "a+": (value, "a+"), "x=": (value, "x="), "{ after =": (value, "{"),
+    "{": (head, "{"), "{{": (head, "{{"), ";": (head, ";"), "if(a)": (head, "if(a)"), "if(a);else ": (head, "if(a);else "), "else ": (head, "else "), "int a;": (head, "int a;"),
+    "a.b();": (head, "a.b();"), "/**/": (head, "/**/"), "f(),": (head + "for(;;", "f(),"), "int a,": ("package p; class A { int ", "a,"), "import a;": ("package p; ", "import a;"),
+    "int f(){}": ("package p; class A { ", "int f(){}"), "1,": (value + "{", "1,"),
+}
+for name, (front, piece) in runs.items():
+    half, whole = [front + piece * (count // len(piece)) + tail for count in (MILLION // 2, MILLION)]
+    times = [micros([text.encode()], 3) for text in (half, whole)]
+    print(f"{name!r}: {times[0]} us for half, {times[1]} us for the whole: {times[1] / times[0]:.1f}, {run([whole.encode()])[0]}", flush=True)
+PY

@@ -1,0 +1,5 @@
+pub mod Reading
+pub mod Reads
+pub mod Sorts
+pub mod Nodes
+pub mod TypeRules

@@ -1,0 +1,5 @@
+pub mod PrimaryRules
+pub mod ExprRules
+pub mod Nests
+pub mod ActionRules
+pub mod NestsLead

@@ -1,0 +1,7 @@
+//! The parser: the tokens of a Java source to its tree, or the first bad token.
+#![tactic(auto)]
+
+mod reading;
+
+pub use jav_rules::{Feature, ParseFault};
+pub use reading::{parse, parse_body, parse_expr, parse_member, parse_type};

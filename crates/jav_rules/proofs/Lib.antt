@@ -1,0 +1,4 @@
+pub mod EndOf
+pub mod FeatureRows
+pub mod FieldLists
+pub mod Wrong

@@ -1,0 +1,3 @@
+pub mod LocalRules
+pub mod StmtRules
+pub mod NestsStmt

@@ -1,0 +1,184 @@
+//! `while` and `for` (JLS 14.12, 14.14).
+ghost use Rattle.std.specs.Prelude.{◌≡◌, ◌<◌, ◌≤◌, ◌-◌, IfOk};
+ghost use Rattle.jav_expr.specs.Nests.{IsLimited};
+ghost use Rattle.jav_stmt.specs.NestsStmt.{NestsStmt};
+ghost use Rattle.jav_cursor.specs.Reads.{Reads};
+ghost use Rattle.jav_stmt.specs.StmtRules as spec;
+
+use crate::flow::{HeaderPart, Maybe, block_of, for_test, header, updates};
+use crate::simple::condition;
+use crate::stmt::{Place, Rules};
+use crate::stmt_tall::TallStmt;
+use jav_cursor::limits::Limits;
+use jav_cursor::sort::Sort;
+use jav_cursor::stop::Stop;
+use jav_cursor::tall::Listed;
+use jav_cursor::tokens::Tokens;
+use jav_expr::expr::expr;
+use jav_expr::primary::Goal;
+use jav_tree::{ForStart, StmtNode, TypeName};
+use mol_base::{List, Text};
+
+/// What stands in the header of a `for` before its second semicolon, and the height of its first part.
+#[derive(Drop)]
+struct ForFront {
+    start: ForStart,
+    height: usize,
+    test: Maybe,
+}
+
+/// A statement that ends in a loop body, from all of it but the body's comments and openness.
+fn looped(at: u32, node: StmtNode, height: usize, is_open: bool, after: List<Text>) -> TallStmt
+    ensures { result ≡ record { at = at; node = node; height = height; is_open = is_open; after = after } }
+{
+    TallStmt {
+        at,
+        node,
+        height,
+        is_open,
+        after,
+    }
+}
+
+impl<F: Copy + Fn(Limits, &mut Tokens<'_>, usize, Place) -> Result<TallStmt, Stop>> Rules<F> {
+    #[tactic(auto, unfolding(crate::specs::StmtRules::while_stmt))]
+    pub fn while_stmt(&self, tokens: &mut Tokens<'_>) -> Result<TallStmt, Stop>
+        requires nests { NestsStmt self.now.limits self.now.top (F.pre self.now.stmt) (F.post self.now.stmt) }
+        requires limited { IsLimited self.now.limits self.now.top }
+        requires some { 0 < self.now.top }
+        ensures reads { Reads (spec.while_stmt self.now.limits self.now.top (spec.stmt self.now.limits (self.now.top - 1)) (spec.stmt self.now.limits (self.now.top - 1 - 1)) tokens.old) result tokens.new }
+        ensures low { IfOk result (λ x. x.height ≤ self.now.top) }
+    {
+        if self.top <= 1 {
+            return Err(Stop::Bad);
+        }
+        let at = tokens.take()?.start;
+        let test = condition(self.limits, tokens, self.top - 1)?;
+        let body = self.branch(tokens, Place::Branch)?;
+        let height = test.height.max(body.height) + 1;
+        let node = StmtNode::While(test.expr, block_of(body.items, body.tail));
+        Ok(looped(at, node, height, body.is_open, body.after))
+    }
+
+    /// The body of a `for`, after its header.
+    #[tactic(auto, unfolding(crate::specs::StmtRules::counted_body))]
+    fn counted_body(
+        &self,
+        tokens: &mut Tokens<'_>,
+        at: u32,
+        front: ForFront,
+        updates: Listed,
+    ) -> Result<TallStmt, Stop>
+        requires nests { NestsStmt self.now.limits self.now.top (F.pre self.now.stmt) (F.post self.now.stmt) }
+        requires limited { IsLimited self.now.limits self.now.top }
+        requires more { 1 < self.now.top }
+        requires height { front.height < self.now.top }
+        requires test_height { front.test.height < self.now.top }
+        requires updates_height { updates.height < self.now.top }
+        ensures reads { Reads (spec.counted_body self.now.limits self.now.top (spec.stmt self.now.limits (self.now.top - 1)) (spec.stmt self.now.limits (self.now.top - 1 - 1)) at front.start front.height front.test updates tokens.old) result tokens.new }
+        ensures low { IfOk result (λ x. x.height ≤ self.now.top) }
+    {
+        let body = self.branch(tokens, Place::Branch)?;
+        let ForFront {
+            start,
+            height,
+            test,
+        } = front;
+        let inner = test.height.max(updates.height.max(body.height));
+        let block = block_of(body.items, body.tail);
+        let node = StmtNode::For(start, test.expr, updates.exprs, block);
+        Ok(looped(at, node, height.max(inner) + 1, body.is_open, body.after))
+    }
+
+    /// The rest of a `for` from its second semicolon on.
+    fn counted_after(
+        &self,
+        tokens: &mut Tokens<'_>,
+        at: u32,
+        front: ForFront,
+    ) -> Result<TallStmt, Stop>
+        requires nests { NestsStmt self.now.limits self.now.top (F.pre self.now.stmt) (F.post self.now.stmt) }
+        requires limited { IsLimited self.now.limits self.now.top }
+        requires more { 1 < self.now.top }
+        requires height { front.height < self.now.top }
+        requires test_height { front.test.height < self.now.top }
+        ensures reads { Reads (spec.counted_after self.now.limits self.now.top (spec.stmt self.now.limits (self.now.top - 1)) (spec.stmt self.now.limits (self.now.top - 1 - 1)) at front.start front.height front.test tokens.old) result tokens.new }
+        ensures low { IfOk result (λ x. x.height ≤ self.now.top) }
+    {
+        tokens.expect(Sort::Semi)?;
+        let updates = updates(self.limits, tokens, self.top - 1)?;
+        tokens.expect(Sort::Close)?;
+        self.counted_body(tokens, at, front, updates)
+    }
+
+    /// The rest of a `for` before its first semicolon.
+    #[tactic(auto, unfolding(crate::specs::StmtRules::counted))]
+    fn counted(
+        &self,
+        tokens: &mut Tokens<'_>,
+        at: u32,
+        start: ForStart,
+        height: usize,
+    ) -> Result<TallStmt, Stop>
+        requires nests { NestsStmt self.now.limits self.now.top (F.pre self.now.stmt) (F.post self.now.stmt) }
+        requires limited { IsLimited self.now.limits self.now.top }
+        requires more { 1 < self.now.top }
+        requires height { height < self.now.top }
+        ensures reads { Reads (spec.counted self.now.limits self.now.top (spec.stmt self.now.limits (self.now.top - 1)) (spec.stmt self.now.limits (self.now.top - 1 - 1)) at start height tokens.old) result tokens.new }
+        ensures low { IfOk result (λ x. x.height ≤ self.now.top) }
+    {
+        tokens.expect(Sort::Semi)?;
+        let test = for_test(self.limits, tokens, self.top - 1)?;
+        let front = ForFront {
+            start,
+            height,
+            test,
+        };
+        self.counted_after(tokens, at, front)
+    }
+
+    /// The rest of a `for` over the items of a value, before its colon.
+    #[tactic(auto, unfolding(crate::specs::StmtRules::each))]
+    fn each(
+        &self,
+        tokens: &mut Tokens<'_>,
+        at: u32,
+        is_final: bool,
+        ty: TypeName,
+        name: Text,
+    ) -> Result<TallStmt, Stop>
+        requires nests { NestsStmt self.now.limits self.now.top (F.pre self.now.stmt) (F.post self.now.stmt) }
+        requires limited { IsLimited self.now.limits self.now.top }
+        requires more { 1 < self.now.top }
+        ensures reads { Reads (spec.each self.now.limits self.now.top (spec.stmt self.now.limits (self.now.top - 1)) (spec.stmt self.now.limits (self.now.top - 1 - 1)) at is_final ty name tokens.old) result tokens.new }
+        ensures low { IfOk result (λ x. x.height ≤ self.now.top) }
+    {
+        tokens.expect(Sort::Colon)?;
+        let x = expr(self.limits, tokens, self.top - 1, Goal::Level(1))?;
+        tokens.expect(Sort::Close)?;
+        let body = self.branch(tokens, Place::Branch)?;
+        let height = x.height.max(body.height) + 1;
+        let block = block_of(body.items, body.tail);
+        let node = StmtNode::Each(is_final, ty, name, x.expr, block);
+        Ok(looped(at, node, height, body.is_open, body.after))
+    }
+
+    #[tactic(auto, unfolding(crate::specs::StmtRules::for_stmt))]
+    pub fn for_stmt(&self, tokens: &mut Tokens<'_>) -> Result<TallStmt, Stop>
+        requires nests { NestsStmt self.now.limits self.now.top (F.pre self.now.stmt) (F.post self.now.stmt) }
+        requires limited { IsLimited self.now.limits self.now.top }
+        requires some { 0 < self.now.top }
+        ensures reads { Reads (spec.for_stmt self.now.limits self.now.top (spec.stmt self.now.limits (self.now.top - 1)) (spec.stmt self.now.limits (self.now.top - 1 - 1)) tokens.old) result tokens.new }
+        ensures low { IfOk result (λ x. x.height ≤ self.now.top) }
+    {
+        if self.top <= 1 {
+            return Err(Stop::Bad);
+        }
+        let at = tokens.take()?.start;
+        tokens.expect(Sort::Open)?;
+        match header(self.limits, tokens, self.top - 1)? {
+            HeaderPart::Start(start, height) => self.counted(tokens, at, start, height),
+            HeaderPart::Each(is_final, ty, name) => self.each(tokens, at, is_final, ty, name),
+        }
+    }
+}
