@@ -37,6 +37,10 @@ fn negated(alloc: Global, e: Expr) -> Result<Expr, OutOfMemory> {
     Ok(made(ExprNode::Unary(op, Boxed::new(alloc, e)?)))
 }
 
+fn minus(alloc: Global, text: &str) -> Result<Expr, OutOfMemory> {
+    negated(alloc, name(alloc, text)?)
+}
+
 fn joined(alloc: Global, left: Expr, op: &str, right: Expr) -> Result<Expr, OutOfMemory> {
     let op = Text::from_str(alloc, op)?;
     let left = Boxed::new(alloc, left)?;
@@ -72,28 +76,26 @@ const EXPRESSIONS: [&str; 8] = [
 
 /// The tree of one of these by the precedence of its operators.
 fn tree_of(alloc: Global, source: &str) -> Result<Expr, OutOfMemory> {
-    let minus_x = negated(alloc, name(alloc, "x")?)?;
     match source {
         "(C) -x" => {
             let left = in_parens(alloc, name(alloc, "C")?)?;
             joined(alloc, left, "-", name(alloc, "x")?)
         }
-        "(int) -x" => cast(
-            alloc,
-            TypeName::Prim(Text::from_str(alloc, "int")?),
-            minus_x,
-        ),
+        "(int) -x" => {
+            let ty = TypeName::Prim(Text::from_str(alloc, "int")?);
+            cast(alloc, ty, minus(alloc, "x")?)
+        }
         "- -1" => {
             let one = made(ExprNode::Lit(Text::from_str(alloc, "1")?));
             negated(alloc, negated(alloc, one)?)
         }
         "a - -y" => {
-            let right = negated(alloc, name(alloc, "y")?)?;
+            let right = minus(alloc, "y")?;
             joined(alloc, name(alloc, "a")?, "-", right)
         }
         "(C) (-x)" => {
             let ty = TypeName::Named(Text::from_str(alloc, "C")?);
-            cast(alloc, ty, in_parens(alloc, minus_x)?)
+            cast(alloc, ty, in_parens(alloc, minus(alloc, "x")?)?)
         }
         "x = y = z" => {
             let right = assigned(alloc, name(alloc, "y")?, name(alloc, "z")?)?;
