@@ -1,0 +1,4 @@
+pub mod ModifierTexts
+pub mod Pages
+pub mod WrittenTexts
+pub mod FileTexts

@@ -1,0 +1,3 @@
+pub mod Modifiers
+pub mod StatementParts
+pub mod Written

@@ -1,0 +1,36 @@
+//! Whole texts.
+ghost use Rattle.std.specs.Prelude.{◌≡◌, IfOk};
+ghost use Rattle.jav_tree.specs.Layout.{body_alone, unit_text};
+ghost use Rattle.jav_tree.specs.TypeText.{type_text};
+
+use crate::page::Page;
+use jav_tree::{Block, TypeName, Unit};
+use mol_base::{List, OutOfMemory};
+use std::alloc::Global;
+
+/// The text of a source file in the one layout. The time is linear in the tree and its text.
+pub fn print(alloc: Global, unit: &Unit) -> Result<List<u8>, OutOfMemory>
+    ensures { IfOk result (λ text. text ≡ unit_text unit.now) }
+{
+    let mut page = Page::new(alloc);
+    page.unit(unit)?;
+    Ok(page.into_bytes())
+}
+
+/// The text of a body by itself: at the left margin, without a line end after its last brace.
+pub fn print_body(alloc: Global, body: &Block) -> Result<List<u8>, OutOfMemory>
+    ensures { IfOk result (λ text. text ≡ body_alone body.now) }
+{
+    let mut page = Page::new(alloc);
+    page.block(0, body)?;
+    Ok(page.into_bytes())
+}
+
+/// The text of a type.
+pub fn print_type(alloc: Global, ty: &TypeName) -> Result<List<u8>, OutOfMemory>
+    ensures { IfOk result (λ text. text ≡ type_text ty.now) }
+{
+    let mut page = Page::new(alloc);
+    page.type_name(ty)?;
+    Ok(page.into_bytes())
+}
