@@ -26,28 +26,8 @@ for name, text in {"slashes": "/" * million, "quote": '"' * 2 + " " + '"' + "a" 
                    "identifier": "a" * million, "comments": "/**/" * (million // 4), "digits": "1_0" * (million // 3)}.items():
     open(f"{work}/{name}.txt", "w").write(text)
 PY
-cat > "$work/ParseOnly.java" <<'JAVA'
-import com.sun.source.util.JavacTask;
-import java.util.List;
-import javax.tools.*;
-public class ParseOnly {
-    public static void main(String[] args) throws Exception {
-        JavaCompiler compiler = ToolProvider.getSystemJavaCompiler();
-        long first = 0, best = Long.MAX_VALUE;
-        for (int i = 0; i < 15; i++) {
-            StandardJavaFileManager files = compiler.getStandardFileManager(null, null, null);
-            JavacTask task = (JavacTask) compiler.getTask(null, files, null, List.of("-proc:none"), null, files.getJavaFileObjects(args[0]));
-            long start = System.nanoTime();
-            task.parse();
-            long took = System.nanoTime() - start;
-            if (i == 0) first = took;
-            best = Math.min(best, took);
-        }
-        System.out.println(first / 1000 + " " + best / 1000);
-    }
-}
-JAVA
-javac -d "$work" "$work/ParseOnly.java"
+"$(dirname "$(readlink -f "$0")")/javac_parser" "$work"
+echo "$work/Big.java" > "$work/names"
 micros() { # the least time of five runs of the program on a file, in microseconds
     python3 - "$program" "$1" <<'PY'
 import subprocess, sys, time
@@ -62,7 +42,7 @@ PY
 }
 bytes=$(wc -c < "$work/Big.java")
 ours=$(micros "$work/Big.java")
-set -- $(java -cp "$work" ParseOnly "$work/Big.java")
+set -- $(java -cp "$work" ParseOnly "$work/names")
 echo "cores $(nproc)"
 echo "source bytes $bytes tokens $("$program" < "$work/Big.java")"
 echo "lex, whole process, best of 5: $ours us, $((bytes * 1000000 / ours)) bytes/s"

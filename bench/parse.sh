@@ -7,33 +7,11 @@
 # `rt run` there, or `rt ci`.
 set -eu
 program=$(readlink -f "$1")
+here=$(dirname "$(readlink -f "$0")")
 work=$(mktemp -d)
 trap 'rm -rf "$work"' EXIT
-cat > "$work/ParseOnly.java" <<'JAVA'
-import com.sun.source.util.JavacTask;
-import java.nio.file.*;
-import java.util.List;
-import javax.tools.*;
-public class ParseOnly {
-    public static void main(String[] args) throws Exception {
-        JavaCompiler compiler = ToolProvider.getSystemJavaCompiler();
-        List<String> names = Files.readAllLines(Path.of(args[0]));
-        long first = 0, best = Long.MAX_VALUE;
-        for (int i = 0; i < 15; i++) {
-            StandardJavaFileManager files = compiler.getStandardFileManager(null, null, null);
-            JavacTask task = (JavacTask) compiler.getTask(null, files, null, List.of("-proc:none"), null, files.getJavaFileObjectsFromStrings(names));
-            long start = System.nanoTime();
-            task.parse();
-            long took = System.nanoTime() - start;
-            if (i == 0) first = took;
-            best = Math.min(best, took);
-        }
-        System.out.println(first / 1000 + " " + best / 1000);
-    }
-}
-JAVA
 if command -v javac >/dev/null && command -v java >/dev/null; then
-    javac -d "$work" "$work/ParseOnly.java"
+    "$here/javac_parser" "$work"
 else
     echo "no javac: its times are left out"
 fi
