@@ -1,5 +1,5 @@
 -- A function value that reads expressions up to a height.
-use Rattle.std.specs.Prelude.{ℕ, ◌≤◌, ◌<◌, ◌^◌, List, Result, IfOk}
+use Rattle.std.specs.Prelude.{ℕ, ◌≤◌, ◌<◌, ◌^◌, ◌-◌, List, Result, IfOk}
 use Rattle.std.specs.Borrow.{MutBor}
 use Rattle.mol_base.specs.Token.{Token}
 use Rattle.jav_cursor.specs.declared.stop.Stop.{Stop}
@@ -8,7 +8,9 @@ use Rattle.jav_expr.specs.declared.primary.Goal.{Goal}
 use Rattle.jav_expr.specs.declared.primary.Goal.TheVariants.{Level, Target, Init, After}
 use Rattle.jav_expr.specs.declared.primary.Rooms.{Rooms}
 use Rattle.jav_cursor.specs.declared.tall.Tall.{Tall}
-use Rattle.jav_expr.specs.ExprRules.{expr}
+use Rattle.jav_expr.specs.ExprRules.{expr, inside}
+use Rattle.jav_expr.specs.PrimaryRules.{Inside}
+use Rattle.jav_cursor.specs.Reading.{Parser}
 use Rattle.jav_cursor.specs.Reads.{Reads}
 
 -- what a goal begins with is no higher than asked for
@@ -41,3 +43,11 @@ pub record AreWithin (top : ℕ) (rooms : Rooms) : Type 0 where
   pub invocation : rooms.invocation ≤ top
   pub target : rooms.target ≤ top
   pub rest : rooms.rest ≤ top
+
+-- a rule for expressions of at most a height, over the rule of those inside them
+abbrev pub at_height : {A : Type 0} → (Limits → ℕ → (Goal → Parser Tall) → (Goal → Parser Tall) → A) → Limits → ℕ → A
+at_height rule l top = rule l top (expr l (top - 1)) (expr l (top - 1 - 1))
+
+-- a rule for expressions of level 15 within these rooms, over the rule of those inside them
+abbrev pub in_rooms : {A : Type 0} → (Limits → ℕ → Rooms → Inside → A) → Limits → ℕ → Rooms → A
+in_rooms rule l top rooms = rule l top rooms (inside l rooms)

@@ -1,7 +1,7 @@
 //! Casts, and expressions in parentheses (JLS 15.16, 15.8.5).
 ghost use Rattle.std.specs.Prelude.{◌≡◌, ◌<◌, ◌≤◌, ◌-◌, IfOk};
 ghost use Rattle.jav_expr.specs.ExprRules as spec;
-ghost use Rattle.jav_expr.specs.Nests.{Nests, IsLimited};
+ghost use Rattle.jav_expr.specs.Nests.{Nests, IsLimited, at_height};
 ghost use Rattle.jav_expr.specs.PrimaryRules as primaries;
 ghost use Rattle.jav_cursor.specs.Reads.{Reads};
 
@@ -34,7 +34,7 @@ impl<F: Copy + Fn(Limits, &mut Tokens<'_>, usize, Goal) -> Result<Tall, Stop>> G
         requires limited { IsLimited self.now.limits self.now.top }
         requires some { 0 < self.now.top }
         requires more { 1 < self.now.top }
-        ensures reads { Reads (spec.cast self.now.limits self.now.top (spec.expr self.now.limits (self.now.top - 1)) (spec.expr self.now.limits (self.now.top - 1 - 1)) at ty tokens.old) result tokens.new }
+        ensures reads { Reads (at_height spec.cast self.now.limits self.now.top at ty tokens.old) result tokens.new }
         ensures low { IfOk result (λ x. x.height ≤ self.now.top) }
     {
         let x = self.part_of(tokens, Goal::Level(13))?;
@@ -54,7 +54,7 @@ impl<F: Copy + Fn(Limits, &mut Tokens<'_>, usize, Goal) -> Result<Tall, Stop>> G
         requires limited { IsLimited self.now.limits self.now.top }
         requires some { 0 < self.now.top }
         requires more { 1 < self.now.top }
-        ensures reads { Reads (spec.array_cast self.now.limits self.now.top (spec.expr self.now.limits (self.now.top - 1)) (spec.expr self.now.limits (self.now.top - 1 - 1)) at base pairs tokens.old) result tokens.new }
+        ensures reads { Reads (at_height spec.array_cast self.now.limits self.now.top at base pairs tokens.old) result tokens.new }
         ensures low { IfOk result (λ x. x.height ≤ self.now.top) }
     {
         tokens.expect(Sort::Close)?;
@@ -73,7 +73,7 @@ impl<F: Copy + Fn(Limits, &mut Tokens<'_>, usize, Goal) -> Result<Tall, Stop>> G
         requires limited { IsLimited self.now.limits self.now.top }
         requires some { 0 < self.now.top }
         requires more { 1 < self.now.top }
-        ensures reads { Reads (spec.primitive_cast self.now.limits self.now.top (spec.expr self.now.limits (self.now.top - 1)) (spec.expr self.now.limits (self.now.top - 1 - 1)) at tokens.old) result tokens.new }
+        ensures reads { Reads (at_height spec.primitive_cast self.now.limits self.now.top at tokens.old) result tokens.new }
         ensures low { IfOk result (λ x. x.height ≤ self.now.top) }
     {
         let base = primitive(self.limits, tokens)?;
@@ -93,7 +93,7 @@ impl<F: Copy + Fn(Limits, &mut Tokens<'_>, usize, Goal) -> Result<Tall, Stop>> G
         requires some { 0 < self.now.top }
         requires free { self.now.rooms ≡ primaries.free self.now.top }
         requires height { left.height ≤ self.now.top }
-        ensures reads { Reads (spec.after_parens self.now.limits self.now.top (spec.expr self.now.limits (self.now.top - 1)) (spec.expr self.now.limits (self.now.top - 1 - 1)) left tokens.old) result tokens.new }
+        ensures reads { Reads (at_height spec.after_parens self.now.limits self.now.top left tokens.old) result tokens.new }
         ensures low { IfOk result (λ x. x.height ≤ self.now.top) }
     {
         let part = self.chain(tokens, left)?;
@@ -108,7 +108,7 @@ impl<F: Copy + Fn(Limits, &mut Tokens<'_>, usize, Goal) -> Result<Tall, Stop>> G
         requires some { 0 < self.now.top }
         requires free { self.now.rooms ≡ primaries.free self.now.top }
         requires height { x.height < self.now.top }
-        ensures reads { Reads (spec.closed self.now.limits self.now.top (spec.expr self.now.limits (self.now.top - 1)) (spec.expr self.now.limits (self.now.top - 1 - 1)) at x tokens.old) result tokens.new }
+        ensures reads { Reads (at_height spec.closed self.now.limits self.now.top at x tokens.old) result tokens.new }
         ensures low { IfOk result (λ x. x.height ≤ self.now.top) }
     {
         tokens.expect(Sort::Close)?;
@@ -125,7 +125,7 @@ impl<F: Copy + Fn(Limits, &mut Tokens<'_>, usize, Goal) -> Result<Tall, Stop>> G
         requires free { self.now.rooms ≡ primaries.free self.now.top }
         requires more { 1 < self.now.top }
         requires height { first.height < self.now.top }
-        ensures reads { Reads (spec.goes_on self.now.limits self.now.top (spec.expr self.now.limits (self.now.top - 1)) (spec.expr self.now.limits (self.now.top - 1 - 1)) at first tokens.old) result tokens.new }
+        ensures reads { Reads (at_height spec.goes_on self.now.limits self.now.top at first tokens.old) result tokens.new }
         ensures low { IfOk result (λ x. x.height ≤ self.now.top) }
     {
         let x = self.part_of(tokens, Goal::After(first))?;
@@ -141,7 +141,7 @@ impl<F: Copy + Fn(Limits, &mut Tokens<'_>, usize, Goal) -> Result<Tall, Stop>> G
         requires some { 0 < self.now.top }
         requires free { self.now.rooms ≡ primaries.free self.now.top }
         requires more { 1 < self.now.top }
-        ensures reads { Reads (spec.name_closed self.now.limits self.now.top (spec.expr self.now.limits (self.now.top - 1)) (spec.expr self.now.limits (self.now.top - 1 - 1)) at names.entry tokens.old) result tokens.new }
+        ensures reads { Reads (at_height spec.name_closed self.now.limits self.now.top at names.entry tokens.old) result tokens.new }
         ensures low { IfOk result (λ x. x.height ≤ self.now.top) }
     {
         if begins_operand(tokens.peek()) {
@@ -180,7 +180,7 @@ impl<F: Copy + Fn(Limits, &mut Tokens<'_>, usize, Goal) -> Result<Tall, Stop>> G
         requires some { 0 < self.now.top }
         requires free { self.now.rooms ≡ primaries.free self.now.top }
         requires more { 1 < self.now.top }
-        ensures reads { Reads (spec.opened_name self.now.limits self.now.top (spec.expr self.now.limits (self.now.top - 1)) (spec.expr self.now.limits (self.now.top - 1 - 1)) at tokens.old) result tokens.new }
+        ensures reads { Reads (at_height spec.opened_name self.now.limits self.now.top at tokens.old) result tokens.new }
         ensures low { IfOk result (λ x. x.height ≤ self.now.top) }
     {
         let names = qualified(self.limits, tokens)?;
@@ -214,7 +214,7 @@ impl<F: Copy + Fn(Limits, &mut Tokens<'_>, usize, Goal) -> Result<Tall, Stop>> G
         requires some { 0 < self.now.top }
         requires free { self.now.rooms ≡ primaries.free self.now.top }
         requires more { 1 < self.now.top }
-        ensures reads { Reads (spec.opened self.now.limits self.now.top (spec.expr self.now.limits (self.now.top - 1)) (spec.expr self.now.limits (self.now.top - 1 - 1)) tokens.old) result tokens.new }
+        ensures reads { Reads (at_height spec.opened self.now.limits self.now.top tokens.old) result tokens.new }
         ensures low { IfOk result (λ x. x.height ≤ self.now.top) }
     {
         let at = tokens.take()?.start;

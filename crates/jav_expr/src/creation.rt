@@ -1,7 +1,7 @@
 //! Creations of objects and of arrays (JLS 15.9, 15.10).
 ghost use Rattle.std.specs.Prelude.{◌≡◌, ◌<◌, ◌≤◌, ◌+◌, ◌-◌, ◌^◌, IfOk};
 ghost use Rattle.jav_expr.specs.ExprRules.{inside};
-ghost use Rattle.jav_expr.specs.Nests.{Nests, IsLimited, AreWithin};
+ghost use Rattle.jav_expr.specs.Nests.{Nests, IsLimited, AreWithin, in_rooms};
 ghost use Rattle.jav_expr.specs.PrimaryRules as spec;
 ghost use Rattle.jav_cursor.specs.Reads.{Reads};
 
@@ -23,7 +23,7 @@ impl<F: Fn(Limits, &mut Tokens<'_>, usize, Goal) -> Result<Tall, Stop>> Grammar<
         requires limited { IsLimited self.now.limits self.now.top }
         requires within { AreWithin self.now.top self.now.rooms }
         requires some { 0 < self.now.rooms.rest }
-        ensures reads { Reads (spec.filled self.now.limits self.now.top self.now.rooms (inside self.now.limits self.now.rooms) at base tokens.old) result tokens.new }
+        ensures reads { Reads (in_rooms spec.filled self.now.limits self.now.top self.now.rooms at base tokens.old) result tokens.new }
         ensures low { IfOk result (λ x. x.height ≤ self.now.rooms.rest) }
     {
         tokens.expect(Sort::Right)?;
@@ -46,7 +46,7 @@ impl<F: Fn(Limits, &mut Tokens<'_>, usize, Goal) -> Result<Tall, Stop>> Grammar<
         requires limited { IsLimited self.now.limits self.now.top }
         requires sizes_height { sizes.height < 2 ^ 62 }
         requires few { count < self.now.limits.most }
-        ensures reads { Reads (spec.empty_pairs self.now.limits self.now.top self.now.rooms (inside self.now.limits self.now.rooms) at base sizes count tokens.old) result tokens.new }
+        ensures reads { Reads (in_rooms spec.empty_pairs self.now.limits self.now.top self.now.rooms at base sizes count tokens.old) result tokens.new }
         ensures low { IfOk result (λ x. x.height ≡ sizes.height + 1) }
     {
         let limits = self.limits;
@@ -73,7 +73,7 @@ impl<F: Fn(Limits, &mut Tokens<'_>, usize, Goal) -> Result<Tall, Stop>> Grammar<
         requires within { AreWithin self.now.top self.now.rooms }
         requires some { 1 < self.now.rooms.rest }
         requires height { first.height < self.now.rooms.rest }
-        ensures reads { Reads (spec.further_sizes self.now.limits self.now.top self.now.rooms (inside self.now.limits self.now.rooms) at base (self.now.limits.most - 1) 1 first tokens.old) result tokens.new }
+        ensures reads { Reads (in_rooms spec.further_sizes self.now.limits self.now.top self.now.rooms at base (self.now.limits.most - 1) 1 first tokens.old) result tokens.new }
         ensures low { IfOk result (λ x. x.height ≤ self.now.rooms.rest) }
     {
         let mut sizes = first;
@@ -99,7 +99,7 @@ impl<F: Fn(Limits, &mut Tokens<'_>, usize, Goal) -> Result<Tall, Stop>> Grammar<
         requires limited { IsLimited self.now.limits self.now.top }
         requires within { AreWithin self.now.top self.now.rooms }
         requires some { 1 < self.now.rooms.rest }
-        ensures reads { Reads (spec.sized self.now.limits self.now.top self.now.rooms (inside self.now.limits self.now.rooms) at base tokens.old) result tokens.new }
+        ensures reads { Reads (in_rooms spec.sized self.now.limits self.now.top self.now.rooms at base tokens.old) result tokens.new }
         ensures low { IfOk result (λ x. x.height ≤ self.now.rooms.rest) }
     {
         let size = self.inner(tokens, self.rooms.rest, Goal::Level(1))?;
@@ -114,7 +114,7 @@ impl<F: Fn(Limits, &mut Tokens<'_>, usize, Goal) -> Result<Tall, Stop>> Grammar<
         requires nests { Nests self.now.limits self.now.top (F.pre self.now.expr) (F.post self.now.expr) }
         requires limited { IsLimited self.now.limits self.now.top }
         requires within { AreWithin self.now.top self.now.rooms }
-        ensures reads { Reads (spec.array self.now.limits self.now.top self.now.rooms (inside self.now.limits self.now.rooms) at base tokens.old) result tokens.new }
+        ensures reads { Reads (in_rooms spec.array self.now.limits self.now.top self.now.rooms at base tokens.old) result tokens.new }
         ensures low { IfOk result (λ x. x.height ≤ self.now.top) }
     {
         if self.rooms.rest == 0 {
@@ -136,7 +136,7 @@ impl<F: Fn(Limits, &mut Tokens<'_>, usize, Goal) -> Result<Tall, Stop>> Grammar<
         requires nests { Nests self.now.limits self.now.top (F.pre self.now.expr) (F.post self.now.expr) }
         requires limited { IsLimited self.now.limits self.now.top }
         requires within { AreWithin self.now.top self.now.rooms }
-        ensures reads { Reads (spec.creation self.now.limits self.now.top self.now.rooms (inside self.now.limits self.now.rooms) tokens.old) result tokens.new }
+        ensures reads { Reads (in_rooms spec.creation self.now.limits self.now.top self.now.rooms tokens.old) result tokens.new }
         ensures low { IfOk result (λ x. x.height ≤ self.now.top) }
     {
         if self.rooms.invocation == 0 {

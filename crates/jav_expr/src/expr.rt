@@ -1,7 +1,7 @@
 //! Operators, casts, and expressions (JLS 15.14 to 15.27).
 ghost use Rattle.std.specs.Prelude.{◌≡◌, ◌<◌, ◌≤◌, ◌-◌, IfOk};
 ghost use Rattle.jav_expr.specs.ExprRules as spec;
-ghost use Rattle.jav_expr.specs.Nests.{Nests, IsLimited, Fits};
+ghost use Rattle.jav_expr.specs.Nests.{Nests, IsLimited, Fits, at_height};
 ghost use Rattle.jav_expr.specs.PrimaryRules as primaries;
 ghost use Rattle.jav_cursor.specs.Reads.{Reads};
 
@@ -65,7 +65,7 @@ impl<F: Copy + Fn(Limits, &mut Tokens<'_>, usize, Goal) -> Result<Tall, Stop>> G
         requires limited { IsLimited self.now.limits self.now.top }
         requires some { 0 < self.now.top }
         requires height { left.height ≤ self.now.top }
-        ensures reads { Reads (spec.postfix self.now.limits self.now.top (spec.expr self.now.limits (self.now.top - 1)) (spec.expr self.now.limits (self.now.top - 1 - 1)) left tokens.old) result tokens.new }
+        ensures reads { Reads (at_height spec.postfix self.now.limits self.now.top left tokens.old) result tokens.new }
         ensures low { IfOk result (λ x. x.height ≤ self.now.top) }
     {
         if tokens.is(Sort::Step) {
@@ -81,7 +81,7 @@ impl<F: Copy + Fn(Limits, &mut Tokens<'_>, usize, Goal) -> Result<Tall, Stop>> G
         requires limited { IsLimited self.now.limits self.now.top }
         requires some { 0 < self.now.top }
         requires height { left.height ≤ self.now.top }
-        ensures reads { Reads (spec.step_after self.now.limits self.now.top (spec.expr self.now.limits (self.now.top - 1)) (spec.expr self.now.limits (self.now.top - 1 - 1)) left tokens.old) result tokens.new }
+        ensures reads { Reads (at_height spec.step_after self.now.limits self.now.top left tokens.old) result tokens.new }
         ensures low { IfOk result (λ x. x.height ≤ self.now.top) }
     {
         if !left.shape.is_target() || self.top <= left.height {
@@ -98,7 +98,7 @@ impl<F: Copy + Fn(Limits, &mut Tokens<'_>, usize, Goal) -> Result<Tall, Stop>> G
         requires limited { IsLimited self.now.limits self.now.top }
         requires some { 0 < self.now.top }
         requires height { left.height < self.now.top }
-        ensures reads { Reads (spec.assign_to self.now.limits self.now.top (spec.expr self.now.limits (self.now.top - 1)) (spec.expr self.now.limits (self.now.top - 1 - 1)) left tokens.old) result tokens.new }
+        ensures reads { Reads (at_height spec.assign_to self.now.limits self.now.top left tokens.old) result tokens.new }
         ensures low { IfOk result (λ x. x.height ≤ self.now.top) }
     {
         let op = tokens.take()?;
@@ -113,7 +113,7 @@ impl<F: Copy + Fn(Limits, &mut Tokens<'_>, usize, Goal) -> Result<Tall, Stop>> G
         requires limited { IsLimited self.now.limits self.now.top }
         requires some { 0 < self.now.top }
         requires height { left.height ≤ self.now.top }
-        ensures reads { Reads (spec.assignment self.now.limits self.now.top (spec.expr self.now.limits (self.now.top - 1)) (spec.expr self.now.limits (self.now.top - 1 - 1)) left tokens.old) result tokens.new }
+        ensures reads { Reads (at_height spec.assignment self.now.limits self.now.top left tokens.old) result tokens.new }
         ensures low { IfOk result (λ x. x.height ≤ self.now.top) }
     {
         if self.top <= left.height {
@@ -129,7 +129,7 @@ impl<F: Copy + Fn(Limits, &mut Tokens<'_>, usize, Goal) -> Result<Tall, Stop>> G
         requires limited { IsLimited self.now.limits self.now.top }
         requires some { 0 < self.now.top }
         requires height { left.height < self.now.top }
-        ensures reads { Reads (spec.instance_of self.now.limits self.now.top (spec.expr self.now.limits (self.now.top - 1)) (spec.expr self.now.limits (self.now.top - 1 - 1)) left tokens.old) result tokens.new }
+        ensures reads { Reads (at_height spec.instance_of self.now.limits self.now.top left tokens.old) result tokens.new }
         ensures low { IfOk result (λ x. x.height ≤ self.now.top) }
     {
         tokens.take()?;
@@ -145,7 +145,7 @@ impl<F: Copy + Fn(Limits, &mut Tokens<'_>, usize, Goal) -> Result<Tall, Stop>> G
         requires some { 0 < self.now.top }
         requires height { left.height < self.now.top }
         requires own { own ≤ 12 }
-        ensures reads { Reads (spec.binary self.now.limits self.now.top (spec.expr self.now.limits (self.now.top - 1)) (spec.expr self.now.limits (self.now.top - 1 - 1)) left own tokens.old) result tokens.new }
+        ensures reads { Reads (at_height spec.binary self.now.limits self.now.top left own tokens.old) result tokens.new }
         ensures low { IfOk result (λ x. x.height ≤ self.now.top) }
     {
         let op = tokens.take()?;
@@ -161,7 +161,7 @@ impl<F: Copy + Fn(Limits, &mut Tokens<'_>, usize, Goal) -> Result<Tall, Stop>> G
         requires some { 0 < self.now.top }
         requires height { left.height ≤ self.now.top }
         requires own { own ≤ 12 }
-        ensures reads { Reads (spec.operation self.now.limits self.now.top (spec.expr self.now.limits (self.now.top - 1)) (spec.expr self.now.limits (self.now.top - 1 - 1)) left own tokens.old) result tokens.new }
+        ensures reads { Reads (at_height spec.operation self.now.limits self.now.top left own tokens.old) result tokens.new }
         ensures low { IfOk result (λ x. x.height ≤ self.now.top) }
     {
         if self.top <= left.height {
@@ -181,7 +181,7 @@ impl<F: Copy + Fn(Limits, &mut Tokens<'_>, usize, Goal) -> Result<Tall, Stop>> G
         requires some { 0 < self.now.top }
         requires height { first.height ≤ self.now.top }
         requires least { 0 < least }
-        ensures reads { Reads (spec.climb self.now.limits self.now.top (spec.expr self.now.limits (self.now.top - 1)) (spec.expr self.now.limits (self.now.top - 1 - 1)) self.now.top least 12 first tokens.old) result tokens.new }
+        ensures reads { Reads (at_height spec.climb self.now.limits self.now.top self.now.top least 12 first tokens.old) result tokens.new }
         ensures low { IfOk result (λ x. x.height ≤ self.now.top) }
     {
         let mut left = first;
@@ -204,7 +204,7 @@ impl<F: Copy + Fn(Limits, &mut Tokens<'_>, usize, Goal) -> Result<Tall, Stop>> G
         requires limited { IsLimited self.now.limits self.now.top }
         requires some { 0 < self.now.top }
         requires height { test.height ≤ self.now.top }
-        ensures reads { Reads (spec.choice self.now.limits self.now.top (spec.expr self.now.limits (self.now.top - 1)) (spec.expr self.now.limits (self.now.top - 1 - 1)) test tokens.old) result tokens.new }
+        ensures reads { Reads (at_height spec.choice self.now.limits self.now.top test tokens.old) result tokens.new }
         ensures low { IfOk result (λ x. x.height ≤ self.now.top) }
     {
         if self.top <= test.height {
@@ -224,7 +224,7 @@ impl<F: Copy + Fn(Limits, &mut Tokens<'_>, usize, Goal) -> Result<Tall, Stop>> G
         requires limited { IsLimited self.now.limits self.now.top }
         requires some { 0 < self.now.top }
         requires height { first.height ≤ self.now.top }
-        ensures reads { Reads (spec.operators self.now.limits self.now.top (spec.expr self.now.limits (self.now.top - 1)) (spec.expr self.now.limits (self.now.top - 1 - 1)) level first tokens.old) result tokens.new }
+        ensures reads { Reads (at_height spec.operators self.now.limits self.now.top level first tokens.old) result tokens.new }
         ensures low { IfOk result (λ x. x.height ≤ self.now.top) }
     {
         if level <= 1 && first.shape.is_target() && is_assignment(tokens.peek()) {
@@ -244,7 +244,7 @@ impl<F: Copy + Fn(Limits, &mut Tokens<'_>, usize, Goal) -> Result<Tall, Stop>> G
         requires limited { IsLimited self.now.limits self.now.top }
         requires some { 0 < self.now.top }
         requires free { self.now.rooms ≡ primaries.free self.now.top }
-        ensures reads { Reads (spec.operand self.now.limits self.now.top (spec.expr self.now.limits (self.now.top - 1)) (spec.expr self.now.limits (self.now.top - 1 - 1)) tokens.old) result tokens.new }
+        ensures reads { Reads (at_height spec.operand self.now.limits self.now.top tokens.old) result tokens.new }
         ensures low { IfOk result (λ x. x.height ≤ self.now.top) }
     {
         match tokens.peek() {
@@ -270,7 +270,7 @@ impl<F: Copy + Fn(Limits, &mut Tokens<'_>, usize, Goal) -> Result<Tall, Stop>> G
         requires limited { IsLimited self.now.limits self.now.top }
         requires some { 0 < self.now.top }
         requires fits { Fits (self.now.top - 1) goal }
-        ensures reads { Reads (spec.prefixed self.now.limits self.now.top (spec.expr self.now.limits (self.now.top - 1)) (spec.expr self.now.limits (self.now.top - 1 - 1)) goal tokens.old) result tokens.new }
+        ensures reads { Reads (at_height spec.prefixed self.now.limits self.now.top goal tokens.old) result tokens.new }
         ensures low { IfOk result (λ x. x.height ≤ self.now.top) }
     {
         if self.top <= 1 {
@@ -287,7 +287,7 @@ impl<F: Copy + Fn(Limits, &mut Tokens<'_>, usize, Goal) -> Result<Tall, Stop>> G
         requires limited { IsLimited self.now.limits self.now.top }
         requires some { 0 < self.now.top }
         requires free { self.now.rooms ≡ primaries.free self.now.top }
-        ensures reads { Reads (spec.level self.now.limits self.now.top (spec.expr self.now.limits (self.now.top - 1)) (spec.expr self.now.limits (self.now.top - 1 - 1)) level tokens.old) result tokens.new }
+        ensures reads { Reads (at_height spec.level self.now.limits self.now.top level tokens.old) result tokens.new }
         ensures low { IfOk result (λ x. x.height ≤ self.now.top) }
     {
         let first = self.operand(tokens)?;
@@ -301,7 +301,7 @@ impl<F: Copy + Fn(Limits, &mut Tokens<'_>, usize, Goal) -> Result<Tall, Stop>> G
         requires some { 0 < self.now.top }
         requires free { self.now.rooms ≡ primaries.free self.now.top }
         requires height { first.height ≤ self.now.top }
-        ensures reads { Reads (spec.after self.now.limits self.now.top (spec.expr self.now.limits (self.now.top - 1)) (spec.expr self.now.limits (self.now.top - 1 - 1)) first tokens.old) result tokens.new }
+        ensures reads { Reads (at_height spec.after self.now.limits self.now.top first tokens.old) result tokens.new }
         ensures low { IfOk result (λ x. x.height ≤ self.now.top) }
     {
         let part = self.chain(tokens, first)?;
@@ -315,7 +315,7 @@ impl<F: Copy + Fn(Limits, &mut Tokens<'_>, usize, Goal) -> Result<Tall, Stop>> G
         requires limited { IsLimited self.now.limits self.now.top }
         requires some { 0 < self.now.top }
         requires stepping { self.now.rooms ≡ primaries.stepping self.now.top }
-        ensures reads { Reads (spec.target self.now.limits self.now.top (spec.expr self.now.limits (self.now.top - 1)) (spec.expr self.now.limits (self.now.top - 1 - 1)) tokens.old) result tokens.new }
+        ensures reads { Reads (at_height spec.target self.now.limits self.now.top tokens.old) result tokens.new }
         ensures low { IfOk result (λ x. x.height ≤ self.now.top) }
     {
         let part = self.part(tokens)?;
@@ -332,7 +332,7 @@ impl<F: Copy + Fn(Limits, &mut Tokens<'_>, usize, Goal) -> Result<Tall, Stop>> G
         requires limited { IsLimited self.now.limits self.now.top }
         requires some { 0 < self.now.top }
         requires free { self.now.rooms ≡ primaries.free self.now.top }
-        ensures reads { Reads (spec.init self.now.limits self.now.top (spec.expr self.now.limits (self.now.top - 1)) (spec.expr self.now.limits (self.now.top - 1 - 1)) tokens.old) result tokens.new }
+        ensures reads { Reads (at_height spec.init self.now.limits self.now.top tokens.old) result tokens.new }
         ensures low { IfOk result (λ x. x.height ≤ self.now.top) }
     {
         if tokens.is(Sort::Begin) {

@@ -3,8 +3,8 @@
 //! The rules take the parser of what stands inside as a parameter, so that each is proved by itself.
 ghost use Rattle.std.specs.Prelude.{◌≡◌, ◌<◌, ◌≤◌, ◌-◌, IfOk};
 ghost use Rattle.jav_lex.specs.Token.{seen};
-ghost use Rattle.jav_expr.specs.ExprRules.{expr, inside};
-ghost use Rattle.jav_expr.specs.Nests.{Nests, IsLimited, AreWithin, Fits};
+ghost use Rattle.jav_expr.specs.ExprRules.{expr};
+ghost use Rattle.jav_expr.specs.Nests.{Nests, IsLimited, AreWithin, Fits, in_rooms};
 ghost use Rattle.jav_expr.specs.PrimaryRules as spec;
 ghost use Rattle.jav_cursor.specs.Reads.{Reads, ReadsToken};
 
@@ -114,7 +114,7 @@ impl<F: Fn(Limits, &mut Tokens<'_>, usize, Goal) -> Result<Tall, Stop>> Grammar<
         requires limited { IsLimited self.now.limits self.now.top }
         requires within { AreWithin self.now.top self.now.rooms }
         requires some { 0 < self.now.rooms.invocation }
-        ensures reads { Reads (spec.super_call self.now.limits self.now.top self.now.rooms (inside self.now.limits self.now.rooms) at tokens.old) result tokens.new }
+        ensures reads { Reads (in_rooms spec.super_call self.now.limits self.now.top self.now.rooms at tokens.old) result tokens.new }
         ensures low { IfOk result (λ x. x.height ≤ self.now.top) }
     {
         tokens.expect(Sort::Dot)?;
@@ -129,7 +129,7 @@ impl<F: Fn(Limits, &mut Tokens<'_>, usize, Goal) -> Result<Tall, Stop>> Grammar<
         requires nests { Nests self.now.limits self.now.top (F.pre self.now.expr) (F.post self.now.expr) }
         requires limited { IsLimited self.now.limits self.now.top }
         requires within { AreWithin self.now.top self.now.rooms }
-        ensures reads { Reads (spec.name self.now.limits self.now.top self.now.rooms (inside self.now.limits self.now.rooms) tokens.old) result tokens.new }
+        ensures reads { Reads (in_rooms spec.name self.now.limits self.now.top self.now.rooms tokens.old) result tokens.new }
         ensures low { IfOk result (λ x. x.height ≤ self.now.top) }
     {
         let name = tokens.expect(Sort::Name)?;
@@ -151,7 +151,7 @@ impl<F: Fn(Limits, &mut Tokens<'_>, usize, Goal) -> Result<Tall, Stop>> Grammar<
         requires nests { Nests self.now.limits self.now.top (F.pre self.now.expr) (F.post self.now.expr) }
         requires limited { IsLimited self.now.limits self.now.top }
         requires within { AreWithin self.now.top self.now.rooms }
-        ensures reads { Reads (spec.parens self.now.limits self.now.top self.now.rooms (inside self.now.limits self.now.rooms) tokens.old) result tokens.new }
+        ensures reads { Reads (in_rooms spec.parens self.now.limits self.now.top self.now.rooms tokens.old) result tokens.new }
         ensures low { IfOk result (λ x. x.height ≤ self.now.top) }
     {
         if self.rooms.rest <= 1 {
@@ -168,7 +168,7 @@ impl<F: Fn(Limits, &mut Tokens<'_>, usize, Goal) -> Result<Tall, Stop>> Grammar<
         requires nests { Nests self.now.limits self.now.top (F.pre self.now.expr) (F.post self.now.expr) }
         requires limited { IsLimited self.now.limits self.now.top }
         requires within { AreWithin self.now.top self.now.rooms }
-        ensures reads { Reads (spec.primary self.now.limits self.now.top self.now.rooms (inside self.now.limits self.now.rooms) tokens.old) result tokens.new }
+        ensures reads { Reads (in_rooms spec.primary self.now.limits self.now.top self.now.rooms tokens.old) result tokens.new }
         ensures low { IfOk result (λ x. x.height ≤ self.now.top) }
     {
         match tokens.peek() {
@@ -205,7 +205,7 @@ impl<F: Fn(Limits, &mut Tokens<'_>, usize, Goal) -> Result<Tall, Stop>> Grammar<
         requires limited { IsLimited self.now.limits self.now.top }
         requires within { AreWithin self.now.top self.now.rooms }
         requires height { left.height ≤ self.now.top }
-        ensures reads { Reads (spec.call_on self.now.limits self.now.top self.now.rooms (inside self.now.limits self.now.rooms) left (seen name.now) tokens.old) result tokens.new }
+        ensures reads { Reads (in_rooms spec.call_on self.now.limits self.now.top self.now.rooms left (seen name.now) tokens.old) result tokens.new }
         ensures low { IfOk result (λ x. x.height ≤ self.now.top) }
     {
         if self.rooms.invocation <= left.height {
@@ -222,7 +222,7 @@ impl<F: Fn(Limits, &mut Tokens<'_>, usize, Goal) -> Result<Tall, Stop>> Grammar<
         requires limited { IsLimited self.now.limits self.now.top }
         requires within { AreWithin self.now.top self.now.rooms }
         requires height { left.height ≤ self.now.top }
-        ensures reads { Reads (spec.member_named self.now.limits self.now.top self.now.rooms (inside self.now.limits self.now.rooms) left (seen name.now) tokens.old) result tokens.new }
+        ensures reads { Reads (in_rooms spec.member_named self.now.limits self.now.top self.now.rooms left (seen name.now) tokens.old) result tokens.new }
         ensures low { IfOk result (λ x. x.height ≤ self.now.top) }
     {
         if tokens.is(Sort::Open) {
@@ -253,7 +253,7 @@ impl<F: Fn(Limits, &mut Tokens<'_>, usize, Goal) -> Result<Tall, Stop>> Grammar<
         requires limited { IsLimited self.now.limits self.now.top }
         requires within { AreWithin self.now.top self.now.rooms }
         requires height { left.height ≤ self.now.top }
-        ensures reads { Reads (spec.member self.now.limits self.now.top self.now.rooms (inside self.now.limits self.now.rooms) left tokens.old) result tokens.new }
+        ensures reads { Reads (in_rooms spec.member self.now.limits self.now.top self.now.rooms left tokens.old) result tokens.new }
         ensures low { IfOk result (λ x. x.height ≤ self.now.top) }
     {
         let name = self.member_name(tokens, left.height)?;
@@ -267,7 +267,7 @@ impl<F: Fn(Limits, &mut Tokens<'_>, usize, Goal) -> Result<Tall, Stop>> Grammar<
         requires limited { IsLimited self.now.limits self.now.top }
         requires within { AreWithin self.now.top self.now.rooms }
         requires height { left.height < self.now.rooms.target }
-        ensures reads { Reads (spec.index self.now.limits self.now.top self.now.rooms (inside self.now.limits self.now.rooms) left tokens.old) result tokens.new }
+        ensures reads { Reads (in_rooms spec.index self.now.limits self.now.top self.now.rooms left tokens.old) result tokens.new }
         ensures low { IfOk result (λ x. x.height ≤ self.now.top) }
     {
         let i = self.inner(tokens, self.rooms.target, Goal::Level(1))?;
@@ -282,7 +282,7 @@ impl<F: Fn(Limits, &mut Tokens<'_>, usize, Goal) -> Result<Tall, Stop>> Grammar<
         requires limited { IsLimited self.now.limits self.now.top }
         requires within { AreWithin self.now.top self.now.rooms }
         requires height { left.height ≤ self.now.top }
-        ensures reads { Reads (spec.item self.now.limits self.now.top self.now.rooms (inside self.now.limits self.now.rooms) left tokens.old) result tokens.new }
+        ensures reads { Reads (in_rooms spec.item self.now.limits self.now.top self.now.rooms left tokens.old) result tokens.new }
         ensures low { IfOk result (λ x. x.height ≤ self.now.top) }
     {
         if left.shape.is_array() || self.rooms.target <= left.height {
@@ -298,7 +298,7 @@ impl<F: Fn(Limits, &mut Tokens<'_>, usize, Goal) -> Result<Tall, Stop>> Grammar<
         requires limited { IsLimited self.now.limits self.now.top }
         requires within { AreWithin self.now.top self.now.rooms }
         requires height { left.height ≤ self.now.top }
-        ensures reads { Reads (spec.link self.now.limits self.now.top self.now.rooms (inside self.now.limits self.now.rooms) left tokens.old) result tokens.new }
+        ensures reads { Reads (in_rooms spec.link self.now.limits self.now.top self.now.rooms left tokens.old) result tokens.new }
         ensures low { IfOk result (λ x. x.height ≤ self.now.top) }
     {
         match tokens.peek() {
@@ -314,7 +314,7 @@ impl<F: Fn(Limits, &mut Tokens<'_>, usize, Goal) -> Result<Tall, Stop>> Grammar<
         requires limited { IsLimited self.now.limits self.now.top }
         requires within { AreWithin self.now.top self.now.rooms }
         requires height { first.height ≤ self.now.top }
-        ensures reads { Reads (spec.chain self.now.limits self.now.top self.now.rooms (inside self.now.limits self.now.rooms) self.now.top first tokens.old) result tokens.new }
+        ensures reads { Reads (in_rooms spec.chain self.now.limits self.now.top self.now.rooms self.now.top first tokens.old) result tokens.new }
         ensures low { IfOk result (λ x. x.height ≤ self.now.top) }
     {
         let mut left = first;
@@ -336,7 +336,7 @@ impl<F: Fn(Limits, &mut Tokens<'_>, usize, Goal) -> Result<Tall, Stop>> Grammar<
         requires nests { Nests self.now.limits self.now.top (F.pre self.now.expr) (F.post self.now.expr) }
         requires limited { IsLimited self.now.limits self.now.top }
         requires within { AreWithin self.now.top self.now.rooms }
-        ensures reads { Reads (spec.part self.now.limits self.now.top self.now.rooms (inside self.now.limits self.now.rooms) tokens.old) result tokens.new }
+        ensures reads { Reads (in_rooms spec.part self.now.limits self.now.top self.now.rooms tokens.old) result tokens.new }
         ensures low { IfOk result (λ x. x.height ≤ self.now.top) }
     {
         let first = self.primary(tokens)?;
@@ -349,7 +349,7 @@ impl<F: Fn(Limits, &mut Tokens<'_>, usize, Goal) -> Result<Tall, Stop>> Grammar<
         requires nests { Nests self.now.limits self.now.top (F.pre self.now.expr) (F.post self.now.expr) }
         requires limited { IsLimited self.now.limits self.now.top }
         requires within { AreWithin self.now.top self.now.rooms }
-        ensures reads { Reads (spec.named self.now.limits self.now.top self.now.rooms (inside self.now.limits self.now.rooms) names.entry tokens.old) result tokens.new }
+        ensures reads { Reads (in_rooms spec.named self.now.limits self.now.top self.now.rooms names.entry tokens.old) result tokens.new }
         ensures low { IfOk result (λ x. x.height ≤ self.now.top) }
     {
         if tokens.is(Sort::Open) {
@@ -371,7 +371,7 @@ impl<F: Fn(Limits, &mut Tokens<'_>, usize, Goal) -> Result<Tall, Stop>> Grammar<
         requires nests { Nests self.now.limits self.now.top (F.pre self.now.expr) (F.post self.now.expr) }
         requires limited { IsLimited self.now.limits self.now.top }
         requires within { AreWithin self.now.top self.now.rooms }
-        ensures reads { Reads (spec.named_item self.now.limits self.now.top self.now.rooms (inside self.now.limits self.now.rooms) names.entry tokens.old) result tokens.new }
+        ensures reads { Reads (in_rooms spec.named_item self.now.limits self.now.top self.now.rooms names.entry tokens.old) result tokens.new }
         ensures low { IfOk result (λ x. x.height ≤ self.now.top) }
     {
         if self.rooms.target <= names.count() {

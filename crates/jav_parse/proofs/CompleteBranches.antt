@@ -23,7 +23,7 @@ use Rattle.jav_cursor.specs.declared.tall.Tall.{Tall}
 use Rattle.jav_cursor.specs.Reading.{Parser, comments, sort as next}
 use Rattle.jav_cursor.specs.Sorts.{sort_of, same_sort}
 use Rattle.jav_stmt.specs.StmtRules as rules
-use Rattle.jav_stmt.specs.StmtRules.{stmt, one, condition, block, wrapped, chained, second_branch, short_if, long_if, chosen, if_stmt}
+use Rattle.jav_stmt.specs.StmtRules.{stmt, statement_at, condition, block, wrapped, chained, second_branch, short_if, long_if, chosen, if_stmt}
 use Rattle.jav_parse.proofs.CompleteLocals.{comments_read}
 use Rattle.jav_parse.proofs.CompleteLoops.{condition_goes, close_ends, stood_is}
 use Rattle.jav_parse.proofs.CompleteSimple.{expression_read}
@@ -59,7 +59,7 @@ module _ (l : Limits) (top : ℕ) (once twice : Place → Parser TallStmt) where
   chosen_short at test h first mid rest notes q n = rw (q, n, or_true first.is_open) refl
 
   chosen_long : (at : ℕ) (test : Expr) (h : ℕ) (first : TallBlock) (mid : List Token) (word : Token) (us rest : List Token) (notes : List (List ℕ)) (second : TallElse) → first.is_open ≡ false
-      → comments l.turns first.after mid ≡ Ok (notes, word ∷ us) → sort_of word ≡ sort.Else → rules.other l top once twice us ≡ Ok (second, rest)
+      → comments l.turns first.after mid ≡ Ok (notes, word ∷ us) → sort_of word ≡ sort.Else → rules.else_branch l top once twice us ≡ Ok (second, rest)
       → chosen l top once twice at test h first mid ≡ Ok (long_if at test h first notes second, rest)
   unfolding chosen next
   chosen_long at test h first mid word us rest notes second closed q hw k = rw (q, closed, hw, same_self sort.Else, take_goes word us, k) refl
@@ -79,20 +79,20 @@ module _ (l : Limits) (top : ℕ) (once twice : Place → Parser TallStmt) where
   unfolding rules.branch
   branch_one kind ts mid rest notes s q n high k = rw (q, n, le_false top 2 high, k) refl
 
-  pub other_if : (ts : List Token) (s : TallStmt) (rest : List Token) → next ts ≡ sort.If → once Chain ts ≡ Ok (s, rest) → rules.other l top once twice ts ≡ Ok (chained s, rest)
-  unfolding rules.other
+  pub other_if : (ts : List Token) (s : TallStmt) (rest : List Token) → next ts ≡ sort.If → once Chain ts ≡ Ok (s, rest) → rules.else_branch l top once twice ts ≡ Ok (chained s, rest)
+  unfolding rules.else_branch
   other_if ts s rest h q = rw (h, same_self sort.If, q) refl
 
-  pub other_branch : (ts : List Token) (b : TallBlock) (rest : List Token) → IsNot sort.If ts → rules.branch l top once twice Plain ts ≡ Ok (b, rest) → rules.other l top once twice ts ≡ Ok (second_branch b, rest)
-  unfolding rules.other
+  pub other_branch : (ts : List Token) (b : TallBlock) (rest : List Token) → IsNot sort.If ts → rules.branch l top once twice Plain ts ≡ Ok (b, rest) → rules.else_branch l top once twice ts ≡ Ok (second_branch b, rest)
+  unfolding rules.else_branch
   other_branch ts b rest n q = rw (n, q) refl
 
-  one_if : (kind : Place) (ts : List Token) (r : TallStmt × List Token) → next ts ≡ sort.If → rules.if_at l top once twice kind ts ≡ Ok r → one l top once twice kind ts ≡ Ok r
-  unfolding one
+  one_if : (kind : Place) (ts : List Token) (r : TallStmt × List Token) → next ts ≡ sort.If → rules.if_at l top once twice kind ts ≡ Ok r → statement_at l top once twice kind ts ≡ Ok r
+  unfolding statement_at
   one_if kind ts r h q = rw (h, same_self sort.If) q
 
-  pub one_other : (kind : Place) (ts : List Token) (r : TallStmt × List Token) → IsNot sort.If ts → rules.standing l top once twice kind ts ≡ Ok r → one l top once twice kind ts ≡ Ok r
-  unfolding one
+  pub one_other : (kind : Place) (ts : List Token) (r : TallStmt × List Token) → IsNot sort.If ts → rules.standing l top once twice kind ts ≡ Ok r → statement_at l top once twice kind ts ≡ Ok r
+  unfolding statement_at
   one_other kind ts r n q = rw n q
 
 -- a statement at a place

@@ -19,7 +19,7 @@ use Rattle.jav_stmt.specs.declared.stmt_tall.TallStmt.{TallStmt}
 use Rattle.jav_cursor.specs.declared.tall.Listed.{Listed}
 use Rattle.jav_cursor.specs.Reading.{Parser, pure}
 use Rattle.jav_cursor.specs.Sorts.{same_sort}
-use Rattle.jav_stmt.specs.StmtRules.{closed, short_if, long_if, branch, block_stmt, other, chosen, if_stmt, while_stmt, counted_body, counted, each, for_by, for_stmt, plain_by, plain, item_by, item, if_at, standing, one, stmt}
+use Rattle.jav_stmt.specs.StmtRules.{closed, short_if, long_if, branch, block_stmt, else_branch, chosen, if_stmt, while_stmt, counted_body, counted, each, for_by, for_stmt, plain_by, plain, item_by, item, if_at, standing, statement_at, stmt}
 use Rattle.jav_parse.proofs.Agree.{Agree, Enough, agree_pure, agree_refuse, agree_bind, agree_if, agree_peek, agree_place, agree_when, agree_take, agree_expect, agree_comments, enough, enough_for, lower, lower_two, agree_le}
 use Rattle.jav_parse.proofs.EnoughAction.{agree_expr_at}
 use Rattle.jav_parse.proofs.EnoughExpr.{LikeGoal}
@@ -52,8 +52,8 @@ module _ {n : ℕ} (l l' : Limits) (like : LikeLimits n l l') (top top' : ℕ) (
       agree_bind {f = λ b. pure (blocked at b)} {g = λ b. pure (blocked at b)} (agree_block l l' like (twice Item) (twice' Item) (second Item) (top - 1) (top' - 1) [] [] below)
       (λ x y r. agree_pure {a = blocked at x} {b = blocked at y} refl (omega arith))))
 
-  agree_other : {h : ℕ} → 0 < h → Agree LikeElse (λ _. 1) n h (other l top once twice) (other l' top' once' twice')
-  unfolding other
+  agree_other : {h : ℕ} → 0 < h → Agree LikeElse (λ _. 1) n h (else_branch l top once twice) (else_branch l' top' once' twice')
+  unfolding else_branch
   agree_other some = agree_when sort.If
       (agree_bind (stmt_at some (first Chain)) (λ x y r. agree_pure r (omega arith)))
       (agree_bind (agree_branch Plain some) (λ x y r. agree_pure r (omega arith)))
@@ -140,8 +140,8 @@ module _ {n : ℕ} (l l' : Limits) (like : LikeLimits n l l') (top top' : ℕ) (
   agree_standing Plain = agree_plain
   agree_standing Chain = agree_refuse
 
-  agree_one : {h : ℕ} (kind : Place) → Agree LikeStmt (λ _. 1) n h (one l top once twice kind) (one l' top' once' twice' kind)
-  unfolding one
+  agree_one : {h : ℕ} (kind : Place) → Agree LikeStmt (λ _. 1) n h (statement_at l top once twice kind) (statement_at l' top' once' twice' kind)
+  unfolding statement_at
   agree_one kind = agree_when sort.If (agree_if_at kind) (agree_standing kind)
 
 -- ---- by recursion on the height

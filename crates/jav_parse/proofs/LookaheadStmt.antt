@@ -27,7 +27,7 @@ use Rattle.jav_expr.specs.ExprRules.{expr}
 use Rattle.jav_stmt.specs.LocalRules.{with_variable, further_variables, variables}
 use Rattle.jav_cursor.specs.Reading.{Parser}
 use Rattle.jav_stmt.specs.StmtRules as rules
-use Rattle.jav_stmt.specs.StmtRules.{condition, super_start, done, super_first, local_of, local, led, expression, return_stmt, throw_stmt, word_stmt, empty_stmt, header_let, header_of, header_led, header_named, header_by, header, for_test, updates, next_item, statements, block, from_super, constructor_block, branch, block_stmt, other, chosen, if_stmt, while_stmt, counted_body, counted, each, for_by, for_stmt, plain_by, plain, item_by, item, if_at, standing, one, stmt}
+use Rattle.jav_stmt.specs.StmtRules.{condition, super_start, done, super_first, local_of, local, led, expression, return_stmt, throw_stmt, word_stmt, empty_stmt, header_let, header_of, header_led, header_named, header_by, header, for_test, updates, next_item, statements, block, from_super, constructor_block, branch, block_stmt, else_branch, chosen, if_stmt, while_stmt, counted_body, counted, each, for_by, for_stmt, plain_by, plain, item_by, item, if_at, standing, statement_at, stmt}
 use Rattle.jav_parse.proofs.Lookahead.{Local, local_refuse, local_bind, local_when, steps}
 use Rattle.jav_parse.proofs.LookaheadExpr.{local_expr, local_action, local_acting_on, local_super_action, local_type_or_part, local_actions, local_actions_after}
 use Rattle.jav_parse.proofs.LookaheadPrimary.{local_arguments}
@@ -166,8 +166,8 @@ module _ (l : Limits) (top : ℕ) (once twice : Place → Parser TallStmt) (firs
   unfolding block_stmt
   local_block_stmt = search (steps, local_block l (twice Item) (second Item)) depth 20
 
-  local_other : Local (other l top once twice)
-  unfolding other
+  local_other : Local (else_branch l top once twice)
+  unfolding else_branch
   local_other = search (steps, local_branch) depth 20
 
   local_chosen : (at : ℕ) (test : Expr) (height : ℕ) (b : TallBlock) → Local (chosen l top once twice at test height b)
@@ -239,8 +239,8 @@ module _ (l : Limits) (top : ℕ) (once twice : Place → Parser TallStmt) (firs
   local_standing Plain = local_plain
   local_standing Chain = local_refuse
 
-  local_one : (kind : Place) → Local (one l top once twice kind)
-  unfolding one
+  local_one : (kind : Place) → Local (statement_at l top once twice kind)
+  unfolding statement_at
   local_one kind = search (steps, local_if_at, local_standing)
 
 -- at the height and at one less

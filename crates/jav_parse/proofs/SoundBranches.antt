@@ -19,7 +19,7 @@ use Rattle.jav_stmt.specs.declared.stmt_tall.TallStmt.{TallStmt}
 use Rattle.jav_cursor.specs.declared.tall.Tall.{Tall}
 use Rattle.jav_cursor.specs.Reading.{Parser, ◌>>=◌, take_token}
 use Rattle.jav_cursor.specs.Sorts.{same_sort}
-use Rattle.jav_stmt.specs.StmtRules.{condition, wrapped, branch, other, chained, second_branch, short_if, long_if, chosen}
+use Rattle.jav_stmt.specs.StmtRules.{condition, wrapped, branch, else_branch, chained, second_branch, short_if, long_if, chosen}
 use Rattle.jav_parse.proofs.ExpressionLaws.{ExpressionLaws}
 use Rattle.jav_parse.proofs.Meets.{ReadsAt, Reads, some_of, reads_pure, reads_refuse, reads_map, reads_if, reads_any, reads_where, reads_bind, reads_token, reads_peek, reads_when}
 use Rattle.jav_parse.proofs.SoundBlocks.{Braces, reads_block}
@@ -60,7 +60,7 @@ record Follows (l : Limits) (top : ℕ) (y : TallElse) (ts : List Token) : Type 
   front : List Token
   back : List Token
   tokens : ts ≡ front ++ back
-  is : Otherwise l.most y.height y.is_open y.other front
+  is : Otherwise l.most y.height y.is_open y.branch front
   after : Comments y.after back
   low : y.height ≤ top
 
@@ -133,8 +133,8 @@ module _ (l : Limits) (laws : ExpressionLaws l) (top : ℕ) (once twice : Place 
   chained_is : (s : TallStmt) (us : List Token) → Stands (ChoiceForm l) (top - 1) s us → Follows l (top - 1) (chained s) us
   chained_is s us k = record { front = k.front; back = k.back; tokens = k.tokens; is = rw (k.at) (stmts.else_if k.node); after = k.after; low = k.low }
 
-  reads_other : Reads (Follows l (top - 1)) (other l top once twice)
-  unfolding other
+  reads_other : Reads (Follows l (top - 1)) (else_branch l top once twice)
+  unfolding else_branch
   reads_other =
       let enclosed = reads_to second_branch (reads_branch (Enclosed l.most) place.Plain (plain_holds l) inner.plain) second_is in
       reads_when sort.If

@@ -217,16 +217,16 @@ module _ (l : Limits) (laws : ExpressionLaws l) (top : ℕ) (once twice : Place 
   some_branch : Some_of (Stands (PlaceForm l place.Branch) top)
   some_branch = let w = some_plain l top p in (w.0, w.1, other_form {new = PlaceForm l place.Branch} plain_branch w.2)
 
-  pub reads_one_item : Reads (Stands (ItemForm l) top) (rules.one l top once twice place.Item)
-  unfolding rules.one
+  pub reads_one_item : Reads (Stands (ItemForm l) top) (rules.statement_at l top once twice place.Item)
+  unfolding rules.statement_at
   reads_one_item = reads_when sort.If (reads_if_stmt (some_item l top p) choice_item) (reads_any reads_item)
 
-  pub reads_one_branch : Reads (Stands (PlaceForm l place.Branch) top) (rules.one l top once twice place.Branch)
-  unfolding rules.one
+  pub reads_one_branch : Reads (Stands (PlaceForm l place.Branch) top) (rules.statement_at l top once twice place.Branch)
+  unfolding rules.statement_at
   reads_one_branch = reads_when sort.If (reads_if_stmt some_branch choice_branch) (reads_any (reads_map reads_plain (λ y us k. other_form {new = PlaceForm l place.Branch} plain_branch k)))
 
-  pub reads_one_plain : Reads (Stands (PlaceForm l place.Plain) top) (rules.one l top once twice place.Plain)
-  unfolding rules.one
+  pub reads_one_plain : Reads (Stands (PlaceForm l place.Plain) top) (rules.statement_at l top once twice place.Plain)
+  unfolding rules.statement_at
   reads_one_plain = reads_when sort.If (reads_refuse (some_plain l top p)) (reads_any reads_plain)
 
   reads_if_choice : nat_le top 1 ≡ false → ReadsAt (Stands (ChoiceForm l) top) (λ u. u ≡ sort.If) (if_stmt l top once twice)
@@ -238,12 +238,12 @@ module _ (l : Limits) (laws : ExpressionLaws l) (top : ℕ) (once twice : Place 
   no_if true ts q = rw q refl
   no_if false ts q = refl
 
-  chain_by : (b : Bool) → nat_le top 1 ≡ b → Tries (Stands (ChoiceForm l) top) (rules.one l top once twice place.Chain)
-  unfolding rules.one
+  chain_by : (b : Bool) → nat_le top 1 ≡ b → Tries (Stands (ChoiceForm l) top) (rules.statement_at l top once twice place.Chain)
+  unfolding rules.statement_at
   chain_by true q = inr (λ ts. no_if (same_sort (next_sort ts) sort.If) ts q)
   chain_by false q =
       let choice = reads_if_choice q in
       inl (reads_when sort.If choice (reads_refuse (some_at (keyword "if") if_sort choice)))
 
-  pub tries_chain : Tries (Stands (ChoiceForm l) top) (rules.one l top once twice place.Chain)
+  pub tries_chain : Tries (Stands (ChoiceForm l) top) (rules.statement_at l top once twice place.Chain)
   tries_chain = chain_by (nat_le top 1) refl

@@ -50,7 +50,7 @@ abbrev pub block_stood : List Stmt → List (List ℕ) → ℕ → Bool → List
 block_stood items tail h is_open notes = record { items = items; tail = tail; height = h; is_open = is_open; after = taken is_open notes }
 
 abbrev pub else_stood : Else → ℕ → Bool → List (List ℕ) → TallElse
-else_stood other h is_open notes = record { other = other; height = h; is_open = is_open; after = taken is_open notes }
+else_stood other h is_open notes = record { branch = other; height = h; is_open = is_open; after = taken is_open notes }
 
 -- the sorts with which a statement begins that is no block, declaration or `if`
 abbrev pub BeginsPlain : Sort → Type 0
@@ -97,7 +97,7 @@ module _ (l : Limits) where
   pub record OtherRead (h : ℕ) (is_open : Bool) (other : Else) (ts : List Token) : Type 0 where
     pub some : 0 < h
     pub read : (top : ℕ) → h < top → (notes : List (List ℕ)) (us rest : List Token) → Followed is_open notes us rest → Fits l (ts ++ (us ++ rest))
-        → rules.other l top (stmt l (top - 1)) (stmt l (top - 1 - 1)) (ts ++ (us ++ rest)) ≡ Ok (else_stood other h is_open notes, left_of is_open us rest)
+        → rules.else_branch l top (stmt l (top - 1)) (stmt l (top - 1 - 1)) (ts ++ (us ++ rest)) ≡ Ok (else_stood other h is_open notes, left_of is_open us rest)
 
   -- a branch at this place
   abbrev pub ReadAt : Place → ℕ → Bool → List Stmt → List (List ℕ) → List Token → Type 0

@@ -58,3 +58,37 @@ ends_in_this (t ∷ u ∷ rest) = ends_in_this (u ∷ rest)
 abbrev pub feature_at : List Token → Token → Option Feature
 feature_at before t =
     if is_symbol t.kind && bytes_eq t.text (codes "(") then (if ends_in_this before then Some feature.ThisCall else None) else feature_by t.kind t.text
+
+-- its name in messages
+abbrev pub name : Feature → List ℕ
+name feature.Generics = codes "generics"
+name feature.Interface = codes "interface"
+name feature.Implements = codes "implements"
+name feature.Enum = codes "enum"
+name feature.Switch = codes "switch"
+name feature.Case = codes "case"
+name feature.Default = codes "default"
+name feature.Do = codes "do"
+name feature.Synchronized = codes "synchronized"
+name feature.Assert = codes "assert"
+name feature.Native = codes "native"
+name feature.Strictfp = codes "strictfp"
+name feature.Goto = codes "goto"
+name feature.Const = codes "const"
+name feature.Float = codes "float"
+name feature.Double = codes "double"
+name feature.Try = codes "try"
+name feature.Catch = codes "catch"
+name feature.Finally = codes "finally"
+name feature.Throws = codes "throws"
+name feature.Lambda = codes "lambda"
+name feature.MethodReference = codes "method-reference"
+name feature.Varargs = codes "varargs"
+name feature.Annotation = codes "annotation"
+name feature.OnDemand = codes "on-demand"
+name feature.StaticPlace = codes "static-place"
+name feature.NestedClass = codes "nested-class"
+name feature.Label = codes "label"
+name feature.Braces = codes "braces"
+name feature.ArrayDeclarator = codes "array-declarator"
+name feature.ThisCall = codes "this-call"

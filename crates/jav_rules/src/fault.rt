@@ -9,7 +9,7 @@ pub enum ParseFault {
     #[error("something else was expected at byte {0}")]
     Expected(u32),
     /// The token shows a part of Java that is left out.
-    #[error("a part of Java that is left out at byte {1}")]
+    #[error("a part of Java that is left out at byte {1}: {0}")]
     Refused(Feature, u32),
     /// A comment stands where a tree has no place for it.
     #[error("a comment out of place at byte {0}")]

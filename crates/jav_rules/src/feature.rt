@@ -6,6 +6,7 @@ ghost use Rattle.jav_rules.specs.FeatureTables.{found};
 
 use jav_lex::Token;
 use mol_base::TokenKind;
+use std::fmt;
 
 /// A part of Java that is left out.
 #[derive(Clone, Copy, Debug, PartialEq, Eq)]
@@ -53,6 +54,53 @@ pub enum Feature {
     ArrayDeclarator,
     /// `(` after `this`.
     ThisCall,
+}
+
+impl Feature {
+    /// Its name in messages: the word that shows it, or what its symbol is for.
+    pub fn name(self) -> &'static str
+        ensures { result.now ≡ spec.name self }
+    {
+        match self {
+            Feature::Generics => "generics",
+            Feature::Interface => "interface",
+            Feature::Implements => "implements",
+            Feature::Enum => "enum",
+            Feature::Switch => "switch",
+            Feature::Case => "case",
+            Feature::Default => "default",
+            Feature::Do => "do",
+            Feature::Synchronized => "synchronized",
+            Feature::Assert => "assert",
+            Feature::Native => "native",
+            Feature::Strictfp => "strictfp",
+            Feature::Goto => "goto",
+            Feature::Const => "const",
+            Feature::Float => "float",
+            Feature::Double => "double",
+            Feature::Try => "try",
+            Feature::Catch => "catch",
+            Feature::Finally => "finally",
+            Feature::Throws => "throws",
+            Feature::Lambda => "lambda",
+            Feature::MethodReference => "method-reference",
+            Feature::Varargs => "varargs",
+            Feature::Annotation => "annotation",
+            Feature::OnDemand => "on-demand",
+            Feature::StaticPlace => "static-place",
+            Feature::NestedClass => "nested-class",
+            Feature::Label => "label",
+            Feature::Braces => "braces",
+            Feature::ArrayDeclarator => "array-declarator",
+            Feature::ThisCall => "this-call",
+        }
+    }
+}
+
+impl fmt::Display for Feature {
+    fn fmt<W: fmt::Write>(&self, f: &mut fmt::Formatter<W>) -> fmt::Result {
+        f.write_str(self.name())
+    }
 }
 
 pub const SYMBOLS: [(&[u8], Feature); 9] = [

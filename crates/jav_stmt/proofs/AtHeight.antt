@@ -3,9 +3,9 @@ use Rattle.std.proofs.Common.{◌≡◌, ℕ, zero, suc, ◌-◌, ◌<◌, List,
 use Rattle.mol_base.specs.Token.{Token}
 use Rattle.jav_cursor.specs.declared.limits.Limits.{Limits}
 use Rattle.jav_stmt.specs.declared.stmt.Place.{Place}
-use Rattle.jav_stmt.specs.StmtRules.{stmt, one}
+use Rattle.jav_stmt.specs.StmtRules.{stmt, statement_at}
 
-pub stmt_is : (l : Limits) (d : ℕ) (kind : Place) → 0 < d → (ts : List Token) → stmt l d kind ts ≡ one l d (stmt l (d - 1)) (stmt l (d - 1 - 1)) kind ts
+pub stmt_is : (l : Limits) (d : ℕ) (kind : Place) → 0 < d → (ts : List Token) → stmt l d kind ts ≡ statement_at l d (stmt l (d - 1)) (stmt l (d - 1 - 1)) kind ts
 unfolding stmt
 stmt_is l zero kind p ts = absurd (omega arith)
 stmt_is l (suc zero) kind p ts = refl

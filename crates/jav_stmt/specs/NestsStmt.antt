@@ -1,5 +1,5 @@
 -- A function value that reads statements up to a height.
-use Rattle.std.specs.Prelude.{ℕ, ◌≤◌, ◌<◌, List, Result, IfOk}
+use Rattle.std.specs.Prelude.{ℕ, ◌≤◌, ◌<◌, ◌-◌, List, Result, IfOk}
 use Rattle.std.specs.Borrow.{MutBor}
 use Rattle.mol_base.specs.Token.{Token}
 use Rattle.jav_cursor.specs.declared.stop.Stop.{Stop}
@@ -8,6 +8,7 @@ use Rattle.jav_stmt.specs.declared.flow.HeaderPart.TheVariants.{Start, Each}
 use Rattle.jav_cursor.specs.declared.limits.Limits.{Limits}
 use Rattle.jav_stmt.specs.declared.stmt.Place.{Place}
 use Rattle.jav_stmt.specs.declared.stmt_tall.TallStmt.{TallStmt}
+use Rattle.jav_cursor.specs.Reading.{Parser}
 use Rattle.jav_cursor.specs.Reads.{Reads}
 use Rattle.jav_stmt.specs.StmtRules.{stmt}
 
@@ -24,3 +25,7 @@ pub record NestsStmt (l : Limits) (top : ℕ) (pre : Limits → MutBor (List Tok
 abbrev pub IsHeaderLow : ℕ → HeaderPart → Type 0
 IsHeaderLow top (Start start height) = height ≤ top
 IsHeaderLow top (Each is_final to name) = Unit {0}
+
+-- a rule for statements of at most a height, over the rule of those inside them
+abbrev pub at_height : {A : Type 0} → (Limits → ℕ → (Place → Parser TallStmt) → (Place → Parser TallStmt) → A) → Limits → ℕ → A
+at_height rule l top = rule l top (stmt l (top - 1)) (stmt l (top - 1 - 1))

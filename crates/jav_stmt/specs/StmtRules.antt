@@ -187,16 +187,16 @@ updates l top = when_next sort.Close (pure no_exprs) (actions l top)
 -- ---- `if`
 
 abbrev pub chained : TallStmt → TallElse
-chained s = record { other = otherwise.If (stmt_at s.at s.node); height = s.height; is_open = s.is_open; after = s.after }
+chained s = record { branch = otherwise.If (stmt_at s.at s.node); height = s.height; is_open = s.is_open; after = s.after }
 
 abbrev pub second_branch : TallBlock → TallElse
-second_branch b = record { other = otherwise.Block (block_of b.items b.tail); height = b.height; is_open = b.is_open; after = b.after }
+second_branch b = record { branch = otherwise.Block (block_of b.items b.tail); height = b.height; is_open = b.is_open; after = b.after }
 
 abbrev pub short_if : ℕ → Expr → ℕ → TallBlock → List (List ℕ) → TallStmt
 short_if at test height first notes = record { at = at; node = node.If test (block_of first.items first.tail) otherwise.None; height = max height first.height + 1; is_open = true; after = notes }
 
 abbrev pub long_if : ℕ → Expr → ℕ → TallBlock → List (List ℕ) → TallElse → TallStmt
-long_if at test height first notes second = record { at = at; node = node.If test (block_of first.items (first.tail ++ notes)) second.other; height = max (max height first.height) second.height + 1; is_open = second.is_open; after = second.after }
+long_if at test height first notes second = record { at = at; node = node.If test (block_of first.items (first.tail ++ notes)) second.branch; height = max (max height first.height) second.height + 1; is_open = second.is_open; after = second.after }
 
 -- ---- what holds statements. `once` reads a statement that may be one less high than the whole, `twice` one that may be two
 -- less high.
@@ -243,14 +243,14 @@ module _ (l : Limits) (top : ℕ) (once twice : Place → Parser TallStmt) where
     b ← block l (twice Item) (top - 1) []
     pure (closed at (node.Block (block_of b.items b.tail)) (b.height + 1)))
 
-  unfoldable pub other : Parser TallElse
-  other = when_next sort.If (once Chain >>= (λ s. pure (chained s))) (branch Plain >>= (λ b. pure (second_branch b)))
+  unfoldable pub else_branch : Parser TallElse
+  else_branch = when_next sort.If (once Chain >>= (λ s. pure (chained s))) (branch Plain >>= (λ b. pure (second_branch b)))
 
   -- `else` and its branch
   abbrev pub with_else : ℕ → Expr → ℕ → TallBlock → List (List ℕ) → Parser TallStmt
   with_else at test height first notes = do
     take_token
-    second ← other
+    second ← else_branch
     pure (long_if at test height first notes second)
 
   -- what follows the first branch of an `if` and the comments after it
@@ -352,11 +352,11 @@ module _ (l : Limits) (top : ℕ) (once twice : Place → Parser TallStmt) where
   standing Plain = plain
   standing Chain = refuse
 
-  unfoldable pub one : Place → Parser TallStmt
-  one kind = when_next sort.If (if_at kind) (standing kind)
+  unfoldable pub statement_at : Place → Parser TallStmt
+  statement_at kind = when_next sort.If (if_at kind) (standing kind)
 
 -- a statement of at most this height
 unfoldable pub stmt : Limits → ℕ → Place → Parser TallStmt
 stmt l zero kind = refuse
-stmt l (suc zero) kind = one l 1 (stmt l zero) (stmt l zero) kind
-stmt l (suc (suc d)) kind = one l (suc (suc d)) (stmt l (suc d)) (stmt l d) kind
+stmt l (suc zero) kind = statement_at l 1 (stmt l zero) (stmt l zero) kind
+stmt l (suc (suc d)) kind = statement_at l (suc (suc d)) (stmt l (suc d)) (stmt l d) kind

@@ -3,7 +3,7 @@ ghost use Rattle.std.specs.Prelude.{◌≡◌, ◌<◌, ◌≤◌, ◌+◌, ◌-
 ghost use Rattle.jav_lex.specs.Token.{seen};
 ghost use Rattle.jav_tree.specs.Blocks.{block_of};
 ghost use Rattle.jav_expr.specs.Nests.{IsLimited};
-ghost use Rattle.jav_stmt.specs.NestsStmt.{NestsStmt, IsHeaderLow};
+ghost use Rattle.jav_stmt.specs.NestsStmt.{NestsStmt, IsHeaderLow, at_height};
 ghost use Rattle.jav_cursor.specs.Reads.{Reads};
 ghost use Rattle.jav_stmt.specs.StmtRules as spec;
 
@@ -34,7 +34,7 @@ pub enum HeaderPart {
 /// What follows `else`.
 #[derive(Drop)]
 pub struct TallElse {
-    pub other: Else,
+    pub branch: Else,
     pub height: usize,
     pub is_open: bool,
     pub after: List<Text>,
@@ -186,7 +186,7 @@ fn chained(limits: Limits, stmt: TallStmt) -> Result<TallElse, OutOfMemory>
         node: stmt.node,
     };
     Ok(TallElse {
-        other: Else::If(Boxed::new(limits.alloc, second)?),
+        branch: Else::If(Boxed::new(limits.alloc, second)?),
         height: stmt.height,
         is_open: stmt.is_open,
         after: stmt.after,
@@ -198,7 +198,7 @@ fn second_branch(branch: TallBlock) -> TallElse
     ensures { result ≡ spec.second_branch branch }
 {
     TallElse {
-        other: Else::Block(block_of(branch.items, branch.tail)),
+        branch: Else::Block(block_of(branch.items, branch.tail)),
         height: branch.height,
         is_open: branch.is_open,
         after: branch.after,
@@ -239,7 +239,7 @@ fn long_if(
     let block = block_of(then.items, tail);
     Ok(TallStmt {
         at,
-        node: StmtNode::If(test, block, second.other),
+        node: StmtNode::If(test, block, second.branch),
         height: height.max(then.height).max(second.height) + 1,
         is_open: second.is_open,
         after: second.after,
@@ -248,12 +248,12 @@ fn long_if(
 
 impl<F: Copy + Fn(Limits, &mut Tokens<'_>, usize, Place) -> Result<TallStmt, Stop>> Rules<F> {
     /// The branch after `else`.
-    #[tactic(auto, unfolding(crate::specs::StmtRules::other))]
-    fn other(&self, tokens: &mut Tokens<'_>) -> Result<TallElse, Stop>
+    #[tactic(auto, unfolding(crate::specs::StmtRules::else_branch))]
+    fn else_branch(&self, tokens: &mut Tokens<'_>) -> Result<TallElse, Stop>
         requires nests { NestsStmt self.now.limits self.now.top (F.pre self.now.stmt) (F.post self.now.stmt) }
         requires limited { IsLimited self.now.limits self.now.top }
         requires more { 1 < self.now.top }
-        ensures reads { Reads (spec.other self.now.limits self.now.top (spec.stmt self.now.limits (self.now.top - 1)) (spec.stmt self.now.limits (self.now.top - 1 - 1)) tokens.old) result tokens.new }
+        ensures reads { Reads (at_height spec.else_branch self.now.limits self.now.top tokens.old) result tokens.new }
         ensures low { IfOk result (λ x. x.height ≤ self.now.top - 1) }
     {
         if tokens.is(Sort::If) {
@@ -279,11 +279,11 @@ impl<F: Copy + Fn(Limits, &mut Tokens<'_>, usize, Place) -> Result<TallStmt, Sto
         requires more { 1 < self.now.top }
         requires height { height < self.now.top }
         requires then_height { then.height < self.now.top }
-        ensures reads { Reads (spec.with_else self.now.limits self.now.top (spec.stmt self.now.limits (self.now.top - 1)) (spec.stmt self.now.limits (self.now.top - 1 - 1)) at test height then notes tokens.old) result tokens.new }
+        ensures reads { Reads (at_height spec.with_else self.now.limits self.now.top at test height then notes tokens.old) result tokens.new }
         ensures low { IfOk result (λ x. x.height ≤ self.now.top) }
     {
         tokens.take()?;
-        let second = self.other(tokens)?;
+        let second = self.else_branch(tokens)?;
         Ok(long_if(at, test, height, then, notes, second)?)
     }
 
@@ -302,7 +302,7 @@ impl<F: Copy + Fn(Limits, &mut Tokens<'_>, usize, Place) -> Result<TallStmt, Sto
         requires more { 1 < self.now.top }
         requires height { height < self.now.top }
         requires then_height { then.height < self.now.top }
-        ensures reads { Reads (spec.chosen_after self.now.limits self.now.top (spec.stmt self.now.limits (self.now.top - 1)) (spec.stmt self.now.limits (self.now.top - 1 - 1)) at test height then notes tokens.old) result tokens.new }
+        ensures reads { Reads (at_height spec.chosen_after self.now.limits self.now.top at test height then notes tokens.old) result tokens.new }
         ensures low { IfOk result (λ x. x.height ≤ self.now.top) }
     {
         if then.is_open || !tokens.is(Sort::Else) {
@@ -326,7 +326,7 @@ impl<F: Copy + Fn(Limits, &mut Tokens<'_>, usize, Place) -> Result<TallStmt, Sto
         requires more { 1 < self.now.top }
         requires height { height < self.now.top }
         requires then_height { then.height < self.now.top }
-        ensures reads { Reads (spec.chosen self.now.limits self.now.top (spec.stmt self.now.limits (self.now.top - 1)) (spec.stmt self.now.limits (self.now.top - 1 - 1)) at test height then tokens.old) result tokens.new }
+        ensures reads { Reads (at_height spec.chosen self.now.limits self.now.top at test height then tokens.old) result tokens.new }
         ensures low { IfOk result (λ x. x.height ≤ self.now.top) }
     {
         let TallBlock {
@@ -352,7 +352,7 @@ impl<F: Copy + Fn(Limits, &mut Tokens<'_>, usize, Place) -> Result<TallStmt, Sto
         requires nests { NestsStmt self.now.limits self.now.top (F.pre self.now.stmt) (F.post self.now.stmt) }
         requires limited { IsLimited self.now.limits self.now.top }
         requires some { 0 < self.now.top }
-        ensures reads { Reads (spec.if_stmt self.now.limits self.now.top (spec.stmt self.now.limits (self.now.top - 1)) (spec.stmt self.now.limits (self.now.top - 1 - 1)) tokens.old) result tokens.new }
+        ensures reads { Reads (at_height spec.if_stmt self.now.limits self.now.top tokens.old) result tokens.new }
         ensures low { IfOk result (λ x. x.height ≤ self.now.top) }
     {
         if self.top <= 1 {

@@ -1,7 +1,7 @@
 //! `while` and `for` (JLS 14.12, 14.14).
 ghost use Rattle.std.specs.Prelude.{◌≡◌, ◌<◌, ◌≤◌, ◌-◌, IfOk};
 ghost use Rattle.jav_expr.specs.Nests.{IsLimited};
-ghost use Rattle.jav_stmt.specs.NestsStmt.{NestsStmt};
+ghost use Rattle.jav_stmt.specs.NestsStmt.{NestsStmt, at_height};
 ghost use Rattle.jav_cursor.specs.Reads.{Reads};
 ghost use Rattle.jav_stmt.specs.StmtRules as spec;
 
@@ -46,7 +46,7 @@ impl<F: Copy + Fn(Limits, &mut Tokens<'_>, usize, Place) -> Result<TallStmt, Sto
         requires nests { NestsStmt self.now.limits self.now.top (F.pre self.now.stmt) (F.post self.now.stmt) }
         requires limited { IsLimited self.now.limits self.now.top }
         requires some { 0 < self.now.top }
-        ensures reads { Reads (spec.while_stmt self.now.limits self.now.top (spec.stmt self.now.limits (self.now.top - 1)) (spec.stmt self.now.limits (self.now.top - 1 - 1)) tokens.old) result tokens.new }
+        ensures reads { Reads (at_height spec.while_stmt self.now.limits self.now.top tokens.old) result tokens.new }
         ensures low { IfOk result (λ x. x.height ≤ self.now.top) }
     {
         if self.top <= 1 {
@@ -75,7 +75,7 @@ impl<F: Copy + Fn(Limits, &mut Tokens<'_>, usize, Place) -> Result<TallStmt, Sto
         requires height { front.height < self.now.top }
         requires test_height { front.test.height < self.now.top }
         requires updates_height { updates.height < self.now.top }
-        ensures reads { Reads (spec.counted_body self.now.limits self.now.top (spec.stmt self.now.limits (self.now.top - 1)) (spec.stmt self.now.limits (self.now.top - 1 - 1)) at front.start front.height front.test updates tokens.old) result tokens.new }
+        ensures reads { Reads (at_height spec.counted_body self.now.limits self.now.top at front.start front.height front.test updates tokens.old) result tokens.new }
         ensures low { IfOk result (λ x. x.height ≤ self.now.top) }
     {
         let body = self.branch(tokens, Place::Branch)?;
@@ -102,7 +102,7 @@ impl<F: Copy + Fn(Limits, &mut Tokens<'_>, usize, Place) -> Result<TallStmt, Sto
         requires more { 1 < self.now.top }
         requires height { front.height < self.now.top }
         requires test_height { front.test.height < self.now.top }
-        ensures reads { Reads (spec.counted_after self.now.limits self.now.top (spec.stmt self.now.limits (self.now.top - 1)) (spec.stmt self.now.limits (self.now.top - 1 - 1)) at front.start front.height front.test tokens.old) result tokens.new }
+        ensures reads { Reads (at_height spec.counted_after self.now.limits self.now.top at front.start front.height front.test tokens.old) result tokens.new }
         ensures low { IfOk result (λ x. x.height ≤ self.now.top) }
     {
         tokens.expect(Sort::Semi)?;
@@ -124,7 +124,7 @@ impl<F: Copy + Fn(Limits, &mut Tokens<'_>, usize, Place) -> Result<TallStmt, Sto
         requires limited { IsLimited self.now.limits self.now.top }
         requires more { 1 < self.now.top }
         requires height { height < self.now.top }
-        ensures reads { Reads (spec.counted self.now.limits self.now.top (spec.stmt self.now.limits (self.now.top - 1)) (spec.stmt self.now.limits (self.now.top - 1 - 1)) at start height tokens.old) result tokens.new }
+        ensures reads { Reads (at_height spec.counted self.now.limits self.now.top at start height tokens.old) result tokens.new }
         ensures low { IfOk result (λ x. x.height ≤ self.now.top) }
     {
         tokens.expect(Sort::Semi)?;
@@ -150,7 +150,7 @@ impl<F: Copy + Fn(Limits, &mut Tokens<'_>, usize, Place) -> Result<TallStmt, Sto
         requires nests { NestsStmt self.now.limits self.now.top (F.pre self.now.stmt) (F.post self.now.stmt) }
         requires limited { IsLimited self.now.limits self.now.top }
         requires more { 1 < self.now.top }
-        ensures reads { Reads (spec.each self.now.limits self.now.top (spec.stmt self.now.limits (self.now.top - 1)) (spec.stmt self.now.limits (self.now.top - 1 - 1)) at is_final ty name tokens.old) result tokens.new }
+        ensures reads { Reads (at_height spec.each self.now.limits self.now.top at is_final ty name tokens.old) result tokens.new }
         ensures low { IfOk result (λ x. x.height ≤ self.now.top) }
     {
         tokens.expect(Sort::Colon)?;
@@ -168,7 +168,7 @@ impl<F: Copy + Fn(Limits, &mut Tokens<'_>, usize, Place) -> Result<TallStmt, Sto
         requires nests { NestsStmt self.now.limits self.now.top (F.pre self.now.stmt) (F.post self.now.stmt) }
         requires limited { IsLimited self.now.limits self.now.top }
         requires some { 0 < self.now.top }
-        ensures reads { Reads (spec.for_stmt self.now.limits self.now.top (spec.stmt self.now.limits (self.now.top - 1)) (spec.stmt self.now.limits (self.now.top - 1 - 1)) tokens.old) result tokens.new }
+        ensures reads { Reads (at_height spec.for_stmt self.now.limits self.now.top tokens.old) result tokens.new }
         ensures low { IfOk result (λ x. x.height ≤ self.now.top) }
     {
         if self.top <= 1 {

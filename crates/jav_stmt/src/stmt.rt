@@ -3,7 +3,7 @@
 //! The rules take the parser of the statements inside as a parameter, so that each is proved by itself.
 ghost use Rattle.std.specs.Prelude.{◌≡◌, ◌<◌, ◌≤◌, ◌+◌, ◌-◌, ◌^◌, IfOk};
 ghost use Rattle.jav_expr.specs.Nests.{IsLimited};
-ghost use Rattle.jav_stmt.specs.NestsStmt.{NestsStmt};
+ghost use Rattle.jav_stmt.specs.NestsStmt.{NestsStmt, at_height};
 ghost use Rattle.jav_cursor.specs.Reads.{Reads};
 ghost use Rattle.jav_stmt.specs.StmtRules as spec;
 ghost use Rattle.jav_stmt.specs.declared.stmt.Place.TheVariants.{Item};
@@ -238,7 +238,7 @@ impl<F: Copy + Fn(Limits, &mut Tokens<'_>, usize, Place) -> Result<TallStmt, Sto
         requires nests { NestsStmt self.now.limits self.now.top (F.pre self.now.stmt) (F.post self.now.stmt) }
         requires limited { IsLimited self.now.limits self.now.top }
         requires some { 0 < self.now.top }
-        ensures reads { Reads (spec.branch self.now.limits self.now.top (spec.stmt self.now.limits (self.now.top - 1)) (spec.stmt self.now.limits (self.now.top - 1 - 1)) place tokens.old) result tokens.new }
+        ensures reads { Reads (at_height spec.branch self.now.limits self.now.top place tokens.old) result tokens.new }
         ensures low { IfOk result (λ x. x.height ≤ self.now.top - 1) }
     {
         let notes = tokens.comments(self.limits, List::new(self.limits.alloc))?;
@@ -258,7 +258,7 @@ impl<F: Copy + Fn(Limits, &mut Tokens<'_>, usize, Place) -> Result<TallStmt, Sto
         requires nests { NestsStmt self.now.limits self.now.top (F.pre self.now.stmt) (F.post self.now.stmt) }
         requires limited { IsLimited self.now.limits self.now.top }
         requires some { 0 < self.now.top }
-        ensures reads { Reads (spec.block_stmt self.now.limits self.now.top (spec.stmt self.now.limits (self.now.top - 1)) (spec.stmt self.now.limits (self.now.top - 1 - 1)) tokens.old) result tokens.new }
+        ensures reads { Reads (at_height spec.block_stmt self.now.limits self.now.top tokens.old) result tokens.new }
         ensures low { IfOk result (λ x. x.height ≤ self.now.top) }
     {
         if self.top <= 1 {
@@ -281,7 +281,7 @@ impl<F: Copy + Fn(Limits, &mut Tokens<'_>, usize, Place) -> Result<TallStmt, Sto
         requires nests { NestsStmt self.now.limits self.now.top (F.pre self.now.stmt) (F.post self.now.stmt) }
         requires limited { IsLimited self.now.limits self.now.top }
         requires some { 0 < self.now.top }
-        ensures reads { Reads (spec.plain self.now.limits self.now.top (spec.stmt self.now.limits (self.now.top - 1)) (spec.stmt self.now.limits (self.now.top - 1 - 1)) tokens.old) result tokens.new }
+        ensures reads { Reads (at_height spec.plain self.now.limits self.now.top tokens.old) result tokens.new }
         ensures low { IfOk result (λ x. x.height ≤ self.now.top) }
     {
         match tokens.peek() {
@@ -302,7 +302,7 @@ impl<F: Copy + Fn(Limits, &mut Tokens<'_>, usize, Place) -> Result<TallStmt, Sto
         requires nests { NestsStmt self.now.limits self.now.top (F.pre self.now.stmt) (F.post self.now.stmt) }
         requires limited { IsLimited self.now.limits self.now.top }
         requires some { 0 < self.now.top }
-        ensures reads { Reads (spec.item self.now.limits self.now.top (spec.stmt self.now.limits (self.now.top - 1)) (spec.stmt self.now.limits (self.now.top - 1 - 1)) tokens.old) result tokens.new }
+        ensures reads { Reads (at_height spec.item self.now.limits self.now.top tokens.old) result tokens.new }
         ensures low { IfOk result (λ x. x.height ≤ self.now.top) }
     {
         match tokens.peek() {
@@ -318,7 +318,7 @@ impl<F: Copy + Fn(Limits, &mut Tokens<'_>, usize, Place) -> Result<TallStmt, Sto
         requires nests { NestsStmt self.now.limits self.now.top (F.pre self.now.stmt) (F.post self.now.stmt) }
         requires limited { IsLimited self.now.limits self.now.top }
         requires some { 0 < self.now.top }
-        ensures reads { Reads (spec.if_at self.now.limits self.now.top (spec.stmt self.now.limits (self.now.top - 1)) (spec.stmt self.now.limits (self.now.top - 1 - 1)) place tokens.old) result tokens.new }
+        ensures reads { Reads (at_height spec.if_at self.now.limits self.now.top place tokens.old) result tokens.new }
         ensures low { IfOk result (λ x. x.height ≤ self.now.top) }
     {
         match place {
@@ -332,7 +332,7 @@ impl<F: Copy + Fn(Limits, &mut Tokens<'_>, usize, Place) -> Result<TallStmt, Sto
         requires nests { NestsStmt self.now.limits self.now.top (F.pre self.now.stmt) (F.post self.now.stmt) }
         requires limited { IsLimited self.now.limits self.now.top }
         requires some { 0 < self.now.top }
-        ensures reads { Reads (spec.standing self.now.limits self.now.top (spec.stmt self.now.limits (self.now.top - 1)) (spec.stmt self.now.limits (self.now.top - 1 - 1)) place tokens.old) result tokens.new }
+        ensures reads { Reads (at_height spec.standing self.now.limits self.now.top place tokens.old) result tokens.new }
         ensures low { IfOk result (λ x. x.height ≤ self.now.top) }
     {
         match place {
@@ -343,12 +343,12 @@ impl<F: Copy + Fn(Limits, &mut Tokens<'_>, usize, Place) -> Result<TallStmt, Sto
     }
 
     /// A statement at this place.
-    #[tactic(auto, unfolding(crate::specs::StmtRules::one))]
-    fn one(&self, tokens: &mut Tokens<'_>, place: Place) -> Result<TallStmt, Stop>
+    #[tactic(auto, unfolding(crate::specs::StmtRules::statement_at))]
+    fn statement_at(&self, tokens: &mut Tokens<'_>, place: Place) -> Result<TallStmt, Stop>
         requires nests { NestsStmt self.now.limits self.now.top (F.pre self.now.stmt) (F.post self.now.stmt) }
         requires limited { IsLimited self.now.limits self.now.top }
         requires some { 0 < self.now.top }
-        ensures reads { Reads (spec.one self.now.limits self.now.top (spec.stmt self.now.limits (self.now.top - 1)) (spec.stmt self.now.limits (self.now.top - 1 - 1)) place tokens.old) result tokens.new }
+        ensures reads { Reads (at_height spec.statement_at self.now.limits self.now.top place tokens.old) result tokens.new }
         ensures low { IfOk result (λ x. x.height ≤ self.now.top) }
     {
         if tokens.is(Sort::If) {
@@ -373,5 +373,5 @@ pub fn stmt(
         return Err(Stop::Bad);
     }
     let rules = Rules { limits, top, stmt };
-    rules.one(tokens, place)
+    rules.statement_at(tokens, place)
 }

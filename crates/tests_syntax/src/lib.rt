@@ -1,5 +1,5 @@
 //! Tests of the crates that sources of Java are read with: lists, texts and spellings, lists of words, what one
-//! token is, and the lexer. They stand in a crate of their own, since a crate with tests is proved twice.
+//! token is, the lexer, and the parser. They stand in a crate of their own, since a crate with tests is proved twice.
 #![tactic(auto)]
 
 mod letters;
@@ -9,6 +9,8 @@ mod lexical;
 mod sources;
 #[cfg(test)]
 mod spelled;
+#[cfg(test)]
+mod trees;
 #[cfg(test)]
 mod values;
 #[cfg(test)]
