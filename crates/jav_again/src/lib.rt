@@ -1,0 +1,6 @@
+//! What is printed is read again.
+#![tactic(auto)]
+
+mod again;
+
+pub use again::{Unread, read_again};

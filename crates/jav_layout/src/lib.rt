@@ -1,0 +1,14 @@
+//! What the layout prints parses back.
+#![tactic(auto)]
+
+ghost use Rattle.jav_layout.specs.ParsesBack.{BodiesParseBack, ExprsParseBack, TypesParseBack, UnitsParseBack};
+
+/// The law of the layout: the text of a printable tree lexes and parses into the tree as printed. The call
+/// computes nothing.
+#[tactic(auto, using(crate::proofs::Back::units_parse_back, crate::proofs::Back::bodies_parse_back, crate::proofs::Back::exprs_parse_back, crate::proofs::Back::types_parse_back))]
+pub fn printed_text()
+    ensures units { UnitsParseBack }
+    ensures bodies { BodiesParseBack }
+    ensures exprs { ExprsParseBack }
+    ensures types { TypesParseBack }
+{}
