@@ -9,7 +9,8 @@ use Rattle.std.specs.FinMap.{get}
 use Rattle.mol_base.specs.declared.ident.Id.{Id}
 use Rattle.mol_table.specs.Agreement.{LivingAgree}
 use Rattle.mol_table.specs.Life.{entity_in, is_living_entity, lives}
-use Rattle.mol_table.specs.Order.{slot_number, every_slot, slot_at}
+use Rattle.mol_table.specs.Order.{slot_number}
+use Rattle.mol_table.proofs.CellOrder.{every_slot, slot_at}
 use Rattle.mol_table.specs.Program.{Program}
 use Rattle.mol_table.specs.Sameness.{Same}
 use Rattle.mol_table.specs.declared.cell.Slot.{Slot}

@@ -26,11 +26,11 @@ use Rattle.mol_table.proofs.Living.{id_tied, same_id-own}
 
 -- ---- lists in order
 
-abbrev Below : Id → List Id → Type 0
+abbrev pub Below : Id → List Id → Type 0
 Below x [] = Unit {0}
 Below x (k ∷ ks) = (id_cmp x k ≡ Less) × Below x ks
 
-abbrev Ascends : List Id → Type 0
+abbrev pub Ascends : List Id → Type 0
 Ascends [] = Unit {0}
 Ascends (k ∷ ks) = Below k ks × Ascends ks
 
@@ -58,7 +58,7 @@ below-found p x (k ∷ ks) below l e = at (p k) e (below-found p x ks below.1 l)
   at true is later = subst (λ y. id_cmp x y ≡ Less) (some-same k l is) below.0
   at false is later = later is
 
-below-has : (x q : Id) (ks : List Id) → Below x ks → list_any (same_id q) ks ≡ true → id_cmp x q ≡ Less
+pub below-has : (x q : Id) (ks : List Id) → Below x ks → list_any (same_id q) ks ≡ true → id_cmp x q ≡ Less
 below-has x q [] below has = absurd (true≢false (sym has))
 below-has x q (k ∷ ks) below has = at (same_id q k) refl has (below-has x q ks below.1) where
   at : (b : Bool) → same_id q k ≡ b → (b || list_any (same_id q) ks) ≡ true → (list_any (same_id q) ks ≡ true → id_cmp x q ≡ Less) → id_cmp x q ≡ Less
@@ -74,6 +74,17 @@ is_lt-own x k is = at (id_cmp x k) is where
 
 is_lt-after : (x k : Id) → id_cmp k x ≡ Less → is_lt (id_cmp x k) ≡ false
 is_lt-after x k is = ap is_lt (id_cmp-total.antisymm x k ∙ ap ordering_reverse is)
+
+-- what passes does not come before the first that passes
+pub find-first : (p : Id → Bool) (ks : List Id) → Ascends ks → (t : Id) → find p ks ≡ Some t → (x : Id) → p x ≡ true → list_any (same_id x) ks ≡ true → is_lt (id_cmp x t) ≡ false
+find-first p [] up t is x passes has = absurd (none-some t is)
+find-first p (k ∷ ks) up t is x passes has = at (p k) refl is (same_id x k) refl has (λ h any. find-first p ks up.1 t h x passes any) where
+  at : (b : Bool) → p k ≡ b → cond b (Some k) (find p ks) ≡ Some t → (s : Bool) → same_id x k ≡ s → (s || list_any (same_id x) ks) ≡ true
+      → (find p ks ≡ Some t → list_any (same_id x) ks ≡ true → is_lt (id_cmp x t) ≡ false) → is_lt (id_cmp x t) ≡ false
+  at true e h true same any rest = ap (λ y. is_lt (id_cmp x y)) (sym (some-same k t h)) ∙ is_lt-own x k same
+  at true e h false same any rest = ap (λ y. is_lt (id_cmp x y)) (sym (some-same k t h)) ∙ is_lt-after x k (below-has k x ks up.0 any)
+  at false e h true same any rest = absurd (true≢false (sym passes ∙ ap p (id_tied x k same) ∙ e))
+  at false e h false same any rest = rest h any
 
 -- the least that passes one of two tests, the second of which is that it is x
 pub find-or : (p : Id → Bool) (x : Id) (ks : List Id) → Ascends ks → list_any (same_id x) ks ≡ true
@@ -109,7 +120,7 @@ find-same p q same (k ∷ ks) = λ i. cond (same k i) (Some k) (find-same p q sa
 -- ---- the constructors of a program
 
 module _ (program : Program) where
-  known-ascend : Ascends (keys program.known)
+  pub known-ascend : Ascends (keys program.known)
   known-ascend = ascends-keys (entries program.known) (entries_sorted program.known)
 
   -- what is a constructor is known

@@ -31,6 +31,21 @@ reserved-program old new rest entries =
 pub reserved-ordered : (old new : Maps) → new.known.entries ≡ old.known.entries → IsOrdered old → IsOrdered new
 reserved-ordered old new entries ordered = subst (λ es. IsSorted id_cmp (map (λ e. e.0) es)) (sym entries) ordered
 
+-- ---- what is known is put in order
+
+pub arranged-program : (old new : Maps) → new ≡ record old { known = new.known } → (program_in new).known ≡ (program_in old).known → program_in new ≡ program_in old
+arranged-program old new rest known = λ i. record { cells = cells_of (rest i).cells.entries; known = known i }
+
+pub stands-arranged : (old new : Maps) → new ≡ record old { known = new.known } → (program_in new).known ≡ (program_in old).known → IsOrdered new
+    → IsProgram (program_in old) → Counted (program_in old) (counts_in old) → Stands new
+stands-arranged old new rest known ordered rules counted =
+    let program = arranged-program old new rest known in
+    record {
+      rules = subst IsProgram (sym program) rules;
+      counted = subst (λ p. Counted p (counts_in new)) (sym program) (subst (Counted (program_in old)) (sym (ap counts_in rest)) counted);
+      ordered = ordered;
+    }
+
 -- ---- the identity of a cell that is there is known
 
 slot_some : (known : Option Known) (slot : Slot) → has_slot known slot ≡ true → is_some known ≡ true

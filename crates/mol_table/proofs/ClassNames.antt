@@ -7,7 +7,8 @@ use Rattle.mol_base.specs.Order.{id_cmp}
 use Rattle.mol_base.specs.declared.ident.Id.{Id}
 use Rattle.mol_table.specs.Forms.{has_form}
 use Rattle.mol_table.specs.Mentions.{Mention, mentions}
-use Rattle.mol_table.specs.Order.{cell_cmp, slot_number, cell_cmp-total, cell_cmp-IsAntisymmetric}
+use Rattle.mol_table.specs.Order.{cell_cmp, slot_number}
+use Rattle.mol_table.proofs.CellOrder.{cell_cmp-total, cell_cmp-IsAntisymmetric}
 use Rattle.mol_table.specs.Program.{Program, same_id, cell, value_at}
 use Rattle.mol_table.specs.Rules.{IsProgram, fills, is_declared, refers_rightly}
 use Rattle.mol_table.specs.Slots.{has_slot}

@@ -167,7 +167,7 @@ module _ {K X : Type 0} {R : K → K → Ordering} (total : IsTotalOrder R) wher
   len-more m k x n rest true is = omega (arith, rest, is)
   len-more m k x n rest false is = omega (arith, rest, is)
 
-  len-le : (es : List (K × X)) → len (from_entries {R = R} es) ≤ length es
+  pub len-le : (es : List (K × X)) → len (from_entries {R = R} es) ≤ length es
   len-le [] = omega (arith, len-empty R X)
   len-le (e ∷ es) =
       let more = len-more (from_entries {R = R} es) e.0 e.1 (length es) (len-le es) (is_some (get (from_entries {R = R} es) e.0)) (len-insert total (from_entries {R = R} es) e.0 e.1) in

@@ -6,7 +6,7 @@ use Rattle.std.proofs.lemmas.List.Folds.{list_all-append}
 use Rattle.std.specs.List.{AllByRecursion, list_all}
 use Rattle.mol_base.specs.Lexical.Characters.{first}
 use Rattle.mol_base.specs.declared.ident.Id.{Id}
-use Rattle.mol_base.specs.Operators.{is_prefix, is_step, is_assignment}
+use Rattle.mol_base.specs.Operators.{is_prefix, is_step}
 use Rattle.mol_table.specs.ExpressionForms as forms
 use Rattle.mol_table.specs.ExpressionForms.{Shape, plain, target, statement, is_value, is_first_value, are_values, are_arguments, shape_of, is_binary, is_initial, is_expression, is_statement}
 use Rattle.mol_table.specs.Mentions as mention

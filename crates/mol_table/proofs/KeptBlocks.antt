@@ -50,34 +50,34 @@ super-kept : (a b : Bool) → (a ≡ true → b ≡ true) → KeepsStatement (su
 super-kept a b f = record { is_super = refl; formed = f }
 
 -- what the folds give of each part
-abbrev else_form : IElse → Bool
+abbrev pub else_form : IElse → Bool
 else_form = fold-IElse Bool StatementShape BlockShape Bool StatementShape forms.else_step forms.node_step forms.block_step forms.if_step forms.statement_step
 
-abbrev node_shape : IStmtNode → StatementShape
+abbrev pub node_shape : IStmtNode → StatementShape
 node_shape = fold-IStmtNode Bool StatementShape BlockShape Bool StatementShape forms.else_step forms.node_step forms.block_step forms.if_step forms.statement_step
 
-abbrev if_form : IIf → Bool
+abbrev pub if_form : IIf → Bool
 if_form = fold-IIf Bool StatementShape BlockShape Bool StatementShape forms.else_step forms.node_step forms.block_step forms.if_step forms.statement_step
 
-abbrev statement_shape : IStmt → StatementShape
+abbrev pub statement_shape : IStmt → StatementShape
 statement_shape = fold-IStmt Bool StatementShape BlockShape Bool StatementShape forms.else_step forms.node_step forms.block_step forms.if_step forms.statement_step
 
-abbrev Mentioned : Type 0
+abbrev pub Mentioned : Type 0
 Mentioned = List Mention
 
-abbrev else_mentions : IElse → Mentioned
+abbrev pub else_mentions : IElse → Mentioned
 else_mentions = fold-IElse Mentioned Mentioned Mentioned Mentioned Mentioned mention.else_step mention.node_step mention.block_step mention.if_step mention.statement_step
 
-abbrev node_mentions : IStmtNode → Mentioned
+abbrev pub node_mentions : IStmtNode → Mentioned
 node_mentions = fold-IStmtNode Mentioned Mentioned Mentioned Mentioned Mentioned mention.else_step mention.node_step mention.block_step mention.if_step mention.statement_step
 
-abbrev block_mentions : IBlock → Mentioned
+abbrev pub block_mentions : IBlock → Mentioned
 block_mentions = fold-IBlock Mentioned Mentioned Mentioned Mentioned Mentioned mention.else_step mention.node_step mention.block_step mention.if_step mention.statement_step
 
-abbrev if_mentions : IIf → Mentioned
+abbrev pub if_mentions : IIf → Mentioned
 if_mentions = fold-IIf Mentioned Mentioned Mentioned Mentioned Mentioned mention.else_step mention.node_step mention.block_step mention.if_step mention.statement_step
 
-abbrev statement_mentions : IStmt → Mentioned
+abbrev pub statement_mentions : IStmt → Mentioned
 statement_mentions = fold-IStmt Mentioned Mentioned Mentioned Mentioned Mentioned mention.else_step mention.node_step mention.block_step mention.if_step mention.statement_step
 
 module _ (present : Id → List Param) (bare : Id → Option Id) (passes : Mention → Bool)

@@ -8,7 +8,8 @@ use Rattle.mol_base.specs.Order.{id_cmp-total, id_cmp-IsAntisymmetric}
 use Rattle.mol_base.specs.declared.ident.Id.{Id}
 use Rattle.mol_table.specs.Counting.{one_if, count, Counts, number_at, living_decls, living_as, living_of, is_of, raised, lowered}
 use Rattle.mol_table.specs.Life.{is_decl_of, is_living_decl, entity_in}
-use Rattle.mol_table.specs.Order.{cell_cmp, cell_cmp-total, cell_cmp-IsAntisymmetric}
+use Rattle.mol_table.specs.Order.{cell_cmp}
+use Rattle.mol_table.proofs.CellOrder.{cell_cmp-total, cell_cmp-IsAntisymmetric}
 use Rattle.mol_table.specs.Program.{Program, Knowns, same_id, cell, is_yes, living_at}
 use Rattle.mol_table.specs.Slots.{slot_of}
 use Rattle.mol_table.specs.Writes.{kept_or, with_params, known_by, with_value, with_values, known_as, with_entity}

@@ -14,7 +14,8 @@ use Rattle.mol_base.specs.declared.ident.Id.{Id}
 use Rattle.mol_table.specs.Forms.{has_form}
 use Rattle.mol_table.specs.Maps.{AreApart}
 use Rattle.mol_table.specs.Mentions.{Role, Mention, a_class, a_field, a_method, a_called_method, a_static_method, a_constructor, a_param, a_listed_param, mentions}
-use Rattle.mol_table.specs.Order.{cell_cmp, slot_number, cell_cmp-total, cell_cmp-IsAntisymmetric}
+use Rattle.mol_table.specs.Order.{cell_cmp, slot_number}
+use Rattle.mol_table.proofs.CellOrder.{cell_cmp-total, cell_cmp-IsAntisymmetric}
 use Rattle.mol_table.specs.Program.{Program, same_id, cell, value_at}
 use Rattle.mol_table.specs.Rules.{IsProgram, fills, has_many, is_declared, refers_rightly}
 use Rattle.mol_table.specs.Slots.{has_slot, slot_of, same_slot}

@@ -38,7 +38,7 @@ nothing-IsProgram = record {
   declarations = λ id method kind is of. absurd (none-some _ (sym (get-empty id_cmp id) ∙ is));
 }
 
-no_entries : {K X : Type 0} (R : K → K → Ordering) → entries (empty {X = X} {R = R}) ≡ []
+pub no_entries : {K X : Type 0} (R : K → K → Ordering) → entries (empty {X = X} {R = R}) ≡ []
 no_entries {X = X} R = no_length (entries (empty {X = X} {R = R})) (sym (len-entries (empty {X = X} {R = R})) ∙ len-empty R X)
 
 pub nothing-Counted : Counted nothing empty

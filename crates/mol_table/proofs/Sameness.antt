@@ -4,7 +4,7 @@ use Rattle.std.proofs.Common.{refl, sym, ◌∙◌}
 use Rattle.std.specs.FinMap.{get, same_map}
 use Rattle.mol_base.specs.Order.{id_cmp-total, id_cmp-IsAntisymmetric}
 use Rattle.mol_base.specs.declared.ident.Id.{Id}
-use Rattle.mol_table.specs.Order.{cell_cmp-total, cell_cmp-IsAntisymmetric}
+use Rattle.mol_table.proofs.CellOrder.{cell_cmp-total, cell_cmp-IsAntisymmetric}
 use Rattle.mol_table.specs.Program.{Program}
 use Rattle.mol_table.specs.Sameness.{Same, IsSameness}
 use Rattle.mol_table.specs.declared.cell.Cell.{Cell}

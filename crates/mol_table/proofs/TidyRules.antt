@@ -14,7 +14,7 @@ use Rattle.mol_table.specs.Counting.{Counts, Counted}
 use Rattle.mol_table.specs.Forms.{is_param, are_params, is_formed, has_form}
 use Rattle.mol_table.specs.Life.{is_decl_of, is_living_decl}
 use Rattle.mol_table.specs.Mentions.{Mention, a_constructor, type_mentions, maybe_mentions}
-use Rattle.mol_table.specs.Order.{cell_cmp-total}
+use Rattle.mol_table.proofs.CellOrder.{cell_cmp-total}
 use Rattle.mol_table.specs.Maps.{program_in}
 use Rattle.mol_table.specs.Program.{Program, Cells, Knowns, is_yes, living_at, params_in, params_at, value_at, cell}
 use Rattle.mol_table.specs.Rules.{IsProgram, fills, refers_rightly, is_declared}

@@ -6,7 +6,8 @@ use Rattle.std.specs.FinMap.{get, insert, get-insert}
 use Rattle.std.specs.Ordering.{eq_by_cmp}
 use Rattle.mol_base.specs.declared.ident.Id.{Id}
 use Rattle.mol_table.specs.Maps.{AreKnown}
-use Rattle.mol_table.specs.Order.{cell_cmp, cell_cmp-total, cell_cmp-IsAntisymmetric}
+use Rattle.mol_table.specs.Order.{cell_cmp}
+use Rattle.mol_table.proofs.CellOrder.{cell_cmp-total, cell_cmp-IsAntisymmetric}
 use Rattle.mol_table.specs.Program.{Program, Knowns, Cells, cell}
 use Rattle.mol_table.specs.Rules.{IsProgram}
 use Rattle.mol_table.specs.Slots.{has_slot}

@@ -7,9 +7,13 @@ use Rattle.mol_base.specs.Order.{id_cmp}
 use Rattle.mol_base.specs.declared.ident.Id.{Id}
 use Rattle.mol_table.specs.Program.{Program}
 
+-- each of the first identities comes before the next
+abbrev pub AscendsTo : ℕ → List Id → Type 0
+AscendsTo n ids = (k : ℕ) (d : Id) → k + 1 < n → id_cmp (slice_index_or ids k d) (slice_index_or ids (k + 1) d) ≡ Less
+
 -- each identity comes before the next
 abbrev pub IsAscending : List Id → Type 0
-IsAscending ids = (k : ℕ) (d : Id) → k + 1 < length ids → id_cmp (slice_index_or ids k d) (slice_index_or ids (k + 1) d) ≡ Less
+IsAscending ids = AscendsTo (length ids) ids
 
 -- the list has each known identity and no other
 abbrev pub AreKnown : Program → List Id → Type 0

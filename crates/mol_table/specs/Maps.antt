@@ -1,5 +1,5 @@
 -- The maps that a table keeps, as the program that they stand for.
-use Rattle.std.specs.Prelude.{◌≡◌, ◌≢◌, ℕ, ◌+◌, List, [], ◌∷◌, length, map, None, IsSome, refl}
+use Rattle.std.specs.Prelude.{◌≡◌, ◌≢◌, ℕ, ◌+◌, List, [], ◌∷◌, ◌++◌, length, map, None, IsSome, refl}
 use Rattle.std.specs.Coded.{Coded, code_by, coded×}
 use Rattle.std.specs.List.{All, AllByRecursion}
 use Rattle.std.specs.List.Sorted.{IsSorted}
@@ -45,6 +45,10 @@ IsOrdered maps = IsSorted id_cmp (keys maps.known)
 -- the identities of entries stand in order
 abbrev pub AreOrdered : List (Id × Known) → Type 0
 AreOrdered entries = IsSorted id_cmp (map (λ entry. entry.0) entries)
+
+-- these identities were known first, in this order
+abbrev pub StartsWith : List Id → List (Id × Known) → Type 0
+StartsWith ids entries = (more : List Id) × (map (λ entry. entry.0) entries ≡ ids ++ more)
 
 -- the maps of a table: the rules of programs hold, and the counts are those of the program
 pub record Stands (maps : Maps) : Type 0 where

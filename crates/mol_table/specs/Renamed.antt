@@ -6,15 +6,15 @@ use Rattle.mol_table.specs.Blocks.{block_of, branch_of}
 use Rattle.mol_table.specs.declared.iblock.IBlock.{IBlock, fold-IBlock}
 use Rattle.mol_table.specs.declared.iblock.IBody.{IBody}
 use Rattle.mol_table.specs.declared.iblock.IDeclarator.{IDeclarator}
-use Rattle.mol_table.specs.declared.iblock.IElse.{IElse}
+use Rattle.mol_table.specs.declared.iblock.IElse.{IElse, fold-IElse}
 use Rattle.mol_table.specs.declared.iblock.IElse.TheOpen.{IElse-F, IStmtNode-F, IBlock-F, IIf-F, IStmt-F}
 use Rattle.mol_table.specs.declared.iblock.IElse.TheVariants as elses
 use Rattle.mol_table.specs.declared.iblock.IForStart.{IForStart}
 use Rattle.mol_table.specs.declared.iblock.IForStart.TheVariants as starts
-use Rattle.mol_table.specs.declared.iblock.IIf.{IIf}
+use Rattle.mol_table.specs.declared.iblock.IIf.{IIf, fold-IIf}
 use Rattle.mol_table.specs.declared.iblock.ILet.{ILet}
-use Rattle.mol_table.specs.declared.iblock.IStmt.{IStmt}
-use Rattle.mol_table.specs.declared.iblock.IStmtNode.{IStmtNode}
+use Rattle.mol_table.specs.declared.iblock.IStmt.{IStmt, fold-IStmt}
+use Rattle.mol_table.specs.declared.iblock.IStmtNode.{IStmtNode, fold-IStmtNode}
 use Rattle.mol_table.specs.declared.iblock.IStmtNode.TheVariants as nodes
 use Rattle.mol_table.specs.declared.iexpr.Argument.{Argument, fold-Argument}
 use Rattle.mol_table.specs.declared.iexpr.IExpr.{IExpr, fold-IExpr}
@@ -130,8 +130,20 @@ module _ (name : Id → Id) where
   abbrev pub statement_step : IStmt-F IElse IStmtNode IBlock IIf IStmt → IStmt
   statement_step statement = record { notes = statement.notes; node = statement.node }
 
+  abbrev pub rename_else : IElse → IElse
+  rename_else = fold-IElse IElse IStmtNode IBlock IIf IStmt else_step node_step block_step if_step statement_step
+
+  abbrev pub rename_node : IStmtNode → IStmtNode
+  rename_node = fold-IStmtNode IElse IStmtNode IBlock IIf IStmt else_step node_step block_step if_step statement_step
+
   abbrev pub rename_block : IBlock → IBlock
   rename_block = fold-IBlock IElse IStmtNode IBlock IIf IStmt else_step node_step block_step if_step statement_step
+
+  abbrev pub rename_if : IIf → IIf
+  rename_if = fold-IIf IElse IStmtNode IBlock IIf IStmt else_step node_step block_step if_step statement_step
+
+  abbrev pub rename_statement : IStmt → IStmt
+  rename_statement = fold-IStmt IElse IStmtNode IBlock IIf IStmt else_step node_step block_step if_step statement_step
 
   abbrev pub rename_body : IBody → IBody
   rename_body body = record { block = rename_block body.block }

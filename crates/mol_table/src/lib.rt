@@ -11,6 +11,8 @@ mod kind;
 mod known;
 mod maps;
 mod param;
+mod renamed;
+mod renumber;
 mod same;
 mod table;
 mod tidy;

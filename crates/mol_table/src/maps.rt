@@ -1,13 +1,16 @@
 //! The maps of a table, on which its rules may not hold yet.
-ghost use Rattle.std.specs.Prelude.{◌≡◌, ◌⊎◌, ◌+◌, ◌<◌, ◌≤◌, ◌^◌, None, Some, IsSome, IsOk, OnOk, IsTrue, ◌↔◌, option_copied, length, is_some};
+ghost use Rattle.std.specs.Prelude.{◌≡◌, ◌⊎◌, ◌+◌, ◌<◌, ◌≤◌, ◌^◌, None, Some, IsSome, IsOk, IfOk, IsTrue, ◌↔◌, option_copied, length, is_some, List};
 ghost use Rattle.indexmap.specs.IndexMap.{spare};
 ghost use Rattle.std.specs.FinMap as map;
+ghost use Rattle.std.specs.Vec.{vec_capacity};
+ghost use Rattle.mol_base.specs.declared.ident.Id.{Id as Identity};
 ghost use Rattle.mol_table.specs.Counting.{number_at, living_of, Counted, counted_by, raised, lowered, recounted, same_method};
-ghost use Rattle.mol_table.specs.Maps.{cells_of, knowns_of, counts_of, program_in, counts_in, IsOrdered, AreKnown, NamesKnown, names_in, names_among, values_in, names_of, AreFresh, AreApart};
+ghost use Rattle.mol_table.specs.Maps.{cells_of, knowns_of, counts_of, program_in, counts_in, StartsWith, AreKnown, NamesKnown, names_in, names_among, values_in, names_of, AreFresh, AreApart};
 ghost use Rattle.mol_table.specs.Life.{entity_in};
 ghost use Rattle.mol_table.specs.Program.{living_at, params_at, params_in};
 ghost use Rattle.mol_table.specs.Writes.{kept_or, with_params, known_by, known_as, with_value, with_values, with_entity, with_entities};
 
+mod ascending;
 mod bare;
 mod change;
 mod copy;
@@ -21,7 +24,7 @@ use mol_base::{Id, OutOfMemory};
 #[derive(Drop)]
 pub(crate) struct Maps {
     pub cells: IndexMap<Cell, Value>,
-    /// Ascending by identity.
+    /// Ascending by identity, but while entities are added or a value is set.
     pub known: IndexMap<Id, Known>,
     pub living: IndexMap<Id, usize>,
 }
@@ -106,18 +109,21 @@ impl Maps {
     fn put_known(&mut self, id: Id, what: Known)
         requires { (0 < spare self.old.known) ⊎ IsSome (map.get (program_in self.old).known id) }
         ensures known { (program_in self.new).known ≡ map.insert (program_in self.old).known id what }
-        ensures ordered { IsOrdered self.old → IsOrdered self.new }
+        ensures starts { (ids : List Identity) → StartsWith ids self.old.known.entries → StartsWith ids self.new.known.entries }
+        ensures count { length self.new.known.entries ≤ length self.old.known.entries + 1 }
+        ensures again { IsSome (map.get (program_in self.old).known id) → length self.new.known.entries ≤ length self.old.known.entries }
         ensures room { spare self.old.known ≤ spare self.new.known + 1 }
         ensures rest { self.new ≡ record self.old { known = self.new.known } }
     {
-        let _ = self.known.insert_sorted(id, what).unwrap();
+        let _ = self.known.insert(id, what).unwrap();
     }
 
     /// Makes an identity known as this, where it is not known. There is room for it.
     fn keep_known(&mut self, id: Id, what: Known)
         requires { 0 < spare self.old.known }
         ensures known { (program_in self.new).known ≡ kept_or (program_in self.old).known id what }
-        ensures ordered { IsOrdered self.old → IsOrdered self.new }
+        ensures starts { (ids : List Identity) → StartsWith ids self.old.known.entries → StartsWith ids self.new.known.entries }
+        ensures count { length self.new.known.entries ≤ length self.old.known.entries + 1 }
         ensures room { spare self.old.known ≤ spare self.new.known + 1 }
         ensures rest { self.new ≡ record self.old { known = self.new.known } }
     {
@@ -130,7 +136,8 @@ impl Maps {
     fn put_params(&mut self, method: &Id, params: &[Param])
         requires { length params.now ≤ spare self.old.known }
         ensures known { (program_in self.new).known ≡ with_params (program_in self.old).known method.now params.now }
-        ensures ordered { IsOrdered self.old → IsOrdered self.new }
+        ensures starts { (ids : List Identity) → StartsWith ids self.old.known.entries → StartsWith ids self.new.known.entries }
+        ensures count { length self.new.known.entries ≤ length self.old.known.entries + length params.now }
         ensures room { spare self.old.known ≤ spare self.new.known + length params.now }
         ensures rest { self.new ≡ record self.old { known = self.new.known } }
     {
@@ -156,7 +163,9 @@ impl Maps {
     fn know(&mut self, id: &Id, value: &Value)
         requires { (names_in value.now ≤ spare self.old.known) ⊎ NamesKnown (program_in self.old).known id.now value.now }
         ensures known { (program_in self.new).known ≡ known_by (program_in self.old).known id.now value.now }
-        ensures ordered { IsOrdered self.old → IsOrdered self.new }
+        ensures starts { (ids : List Identity) → StartsWith ids self.old.known.entries → StartsWith ids self.new.known.entries }
+        ensures count { length self.new.known.entries ≤ length self.old.known.entries + names_in value.now }
+        ensures again { NamesKnown (program_in self.old).known id.now value.now → length self.new.known.entries ≤ length self.old.known.entries }
         ensures room { spare self.old.known ≤ spare self.new.known + names_in value.now }
         ensures rest { self.new ≡ record self.old { known = self.new.known } }
     {
@@ -178,7 +187,9 @@ impl Maps {
         requires cell { (0 < spare self.old.cells) ⊎ IsSome (map.get (program_in self.old).cells cell) }
         requires names { (names_in value ≤ spare self.old.known) ⊎ NamesKnown (program_in self.old).known cell.id value }
         ensures program { program_in self.new ≡ with_value (program_in self.old) cell value }
-        ensures ordered { IsOrdered self.old → IsOrdered self.new }
+        ensures starts { (ids : List Identity) → StartsWith ids self.old.known.entries → StartsWith ids self.new.known.entries }
+        ensures count { length self.new.known.entries ≤ length self.old.known.entries + names_in value }
+        ensures again { NamesKnown (program_in self.old).known cell.id value → length self.new.known.entries ≤ length self.old.known.entries }
         ensures cells_room { spare self.old.cells ≤ spare self.new.cells + 1 }
         ensures known_room { spare self.old.known ≤ spare self.new.known + names_in value }
         ensures rest { self.new.living ≡ self.old.living }
@@ -192,7 +203,8 @@ impl Maps {
         requires cells { length values.items ≤ spare self.old.cells }
         requires names { names_among values.items ≤ spare self.old.known }
         ensures program { program_in self.new ≡ with_values (program_in self.old) id.now values.items }
-        ensures ordered { IsOrdered self.old → IsOrdered self.new }
+        ensures starts { (ids : List Identity) → StartsWith ids self.old.known.entries → StartsWith ids self.new.known.entries }
+        ensures count { length self.new.known.entries ≤ length self.old.known.entries + names_among values.items }
         ensures cells_room { spare self.old.cells ≤ spare self.new.cells + length values.items }
         ensures known_room { spare self.old.known ≤ spare self.new.known + names_among values.items }
         ensures rest { self.new.living ≡ self.old.living }
@@ -210,7 +222,8 @@ impl Maps {
     fn know_as(&mut self, id: Id, kind: Kind)
         requires { 0 < spare self.old.known }
         ensures known { (program_in self.new).known ≡ known_as (program_in self.old).known id kind }
-        ensures ordered { IsOrdered self.old → IsOrdered self.new }
+        ensures starts { (ids : List Identity) → StartsWith ids self.old.known.entries → StartsWith ids self.new.known.entries }
+        ensures count { length self.new.known.entries ≤ length self.old.known.entries + 1 }
         ensures room { spare self.old.known ≤ spare self.new.known + 1 }
         ensures rest { self.new ≡ record self.old { known = self.new.known } }
     {
@@ -274,20 +287,24 @@ impl Maps {
         self.raise(now);
     }
 
-    /// Makes room for the parameters that a value lists, where not all of them are known.
-    pub fn reserve_for(&mut self, id: &Id, value: &Value) -> Result<(), OutOfMemory>
+    /// Makes room for the parameters that a value lists, where not all of them are known, and to sort them
+    /// in among what is known.
+    pub fn reserve_for(&mut self, id: &Id, value: &Value) -> Result<Vec<Id>, OutOfMemory>
         requires { IsSome (map.get (program_in self.old).known id.now) }
-        ensures room { OnOk result ((names_in value.now ≤ spare self.new.known) ⊎ NamesKnown (program_in self.old).known id.now value.now) }
+        ensures room { IfOk result (λ room. ((names_in value.now ≤ spare self.new.known) × (length self.old.known.entries + names_in value.now ≤ vec_capacity room))
+            ⊎ NamesKnown (program_in self.old).known id.now value.now) }
         ensures memory { AreKnown (program_in self.old).known (params_in (Some value.now)) → IsOk result }
         ensures entries { self.new.known.entries ≡ self.old.known.entries }
         ensures rest { self.new ≡ record self.old { known = self.new.known } }
     {
         if let Value::Params(params) = value {
             if !self.all_known(params.items()) {
-                self.known.reserve(params.items().len())?;
+                let more = params.items().len();
+                self.known.reserve(more)?;
+                return self.room_to_sort(more);
             }
         }
-        Ok(())
+        Ok(Vec::new(*self.known.allocator()))
     }
 
     /// Counts an identity that was added. There is room for it.
@@ -319,7 +336,8 @@ impl Maps {
         requires counted { Counted (program_in self.old) (counts_in self.old) }
         ensures program { program_in self.new ≡ with_entity (program_in self.old) entity }
         ensures counted { Counted (program_in self.new) (counts_in self.new) }
-        ensures ordered { IsOrdered self.old → IsOrdered self.new }
+        ensures starts { (ids : List Identity) → StartsWith ids self.old.known.entries → StartsWith ids self.new.known.entries }
+        ensures count { length self.new.known.entries ≤ length self.old.known.entries + (1 + names_among entity.values) }
         ensures cells_room { spare self.old.cells ≤ spare self.new.cells + length entity.values }
         ensures known_room { spare self.old.known ≤ spare self.new.known + (1 + names_among entity.values) }
         ensures living_room { spare self.old.living ≤ spare self.new.living + 1 }
@@ -342,7 +360,8 @@ impl Maps {
         requires counted { Counted (program_in self.old) (counts_in self.old) }
         ensures program { program_in self.new ≡ with_entities (program_in self.old) entities.items }
         ensures counted { Counted (program_in self.new) (counts_in self.new) }
-        ensures ordered { IsOrdered self.old → IsOrdered self.new }
+        ensures starts { (ids : List Identity) → StartsWith ids self.old.known.entries → StartsWith ids self.new.known.entries }
+        ensures count { length self.new.known.entries ≤ length self.old.known.entries + names_of entities.items }
     {
         for entity in entities {
             self.put_entity(entity);

@@ -8,6 +8,7 @@ ghost use Rattle.mol_table.specs.Life.{lives, lives_method, lists, is_living_ent
 ghost use Rattle.mol_table.specs.Order.{id_eq};
 ghost use Rattle.mol_table.specs.Program.{Program, nothing, kind_of, method_of_param, params_in};
 ghost use Rattle.mol_table.specs.Maps.{AreKnown as ParamsKnown};
+ghost use Rattle.mol_table.specs.Renumber.{renumber, MayRenumber};
 ghost use Rattle.mol_table.specs.Rules.{IsProgram};
 ghost use Rattle.mol_table.specs.Sameness.{Same, IsSameness};
 ghost use Rattle.mol_table.specs.Tidy.{tidy};
@@ -216,13 +217,33 @@ impl Table {
         })
     }
 
+    /// The table with what lives alone, under the identities of a base: numbered from 1, with the empty tag.
+    /// Classes go first, by the paths of their files; then fields and declarations class by class, in the
+    /// order of their identities, in which they print; then methods in the order of their topmost
+    /// declarations, each followed by its present parameters. All that names an identity names the new one.
+    ///
+    /// The table is tidied, each method that lives has a topmost declaration, what lives refers to what is
+    /// there, and there are less than 2 to the 32nd identities that live. A table without faults that is
+    /// tidied is so. The time is that of some look-ups for each cell and each identity, and of sorting what
+    /// lives. Where superclasses run in a circle, topmost declarations are looked for by a pass over all
+    /// identities for each living declaration, and one more for each declaration of its method that is tried,
+    /// which goes up from each living declaration of the method.
+    pub fn renumber(&self, alloc: Global) -> Result<Table, OutOfMemory>
+        requires { MayRenumber self.now }
+        ensures { IfOk result (λ renumbered. renumbered ≡ renumber self.now) }
+    {
+        Ok(Table {
+            maps: self.maps.renumbered(alloc)?,
+        })
+    }
+
     /// Adds entities with all their cells; all else stays, and the parameters that they list become known
     /// with their methods. For want of memory the table stays as it was.
     ///
     /// The identities are not known and differ, none is a parameter, each entity's values are those of its
     /// kind in the order of the slots, and the rules of programs hold afterwards. The time is that of a
-    /// look-up for each value and each identity where the identities ascend and come after all known
-    /// ones; one that comes before k others moves these.
+    /// look-up for each value and each identity, and of sorting what becomes known; where that does not come
+    /// after all known identities, these are sorted with it, once a call.
     pub fn add(&mut self, entities: List<NewEntity>) -> Result<(), OutOfMemory>
         requires { AreNew self.old entities }
         ensures ok { OnOk result (self.new ≡ with_entities self.old entities) }
@@ -248,7 +269,7 @@ impl Table {
 }
 
 /// Whether a list has the parameter.
-fn is_among(id: &Id, params: &[Param]) -> bool
+pub(crate) fn is_among(id: &Id, params: &[Param]) -> bool
     ensures { result ≡ list_any (λ param. id_eq id.now param.id) params.now }
 {
     params.iter().any(|param| *id == param.id)

@@ -17,7 +17,7 @@ use Rattle.mol_table.specs.declared.cell.Slot.{Slot}
 use Rattle.mol_table.specs.declared.cell.Slot.TheVariants as slots
 use Rattle.mol_table.specs.declared.known.Known.{Known}
 use Rattle.mol_table.specs.declared.known.Known.TheVariants as knowns
-use Rattle.mol_table.specs.Order.{slot_same, cell_cmp-total, cell_cmp-IsAntisymmetric}
+use Rattle.mol_table.proofs.CellOrder.{slot_same, cell_cmp-total, cell_cmp-IsAntisymmetric}
 use Rattle.mol_top.specs.Cells.{has, id_at_slot, ids_with}
 
 pub cell_tied : (x y : Cell) → eq_by_cmp cell_cmp x y ≡ true → x ≡ y

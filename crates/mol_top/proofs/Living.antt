@@ -8,7 +8,7 @@ use Rattle.std.proofs.lemmas.Bool.{and_parts}
 use Rattle.std.specs.FinMap.{get}
 use Rattle.mol_table.specs.Identities.{IsAscending, AreKnown}
 use Rattle.mol_table.specs.Life.{lives}
-use Rattle.mol_table.specs.Order.{slot_same}
+use Rattle.mol_table.proofs.CellOrder.{slot_same}
 use Rattle.mol_table.specs.Program.{Program, value_at}
 use Rattle.mol_table.specs.Rules.{IsProgram}
 use Rattle.mol_table.specs.Slots.{slot_of, has_slot}

@@ -8,7 +8,7 @@ use Rattle.std.specs.FinMap.Entries.{below_all, same_entries}
 use Rattle.mol_base.specs.declared.ident.Id.{Id}
 use Rattle.mol_table.specs.Life.{is_decl_of, lives, lives_as, lives_method, lists}
 use Rattle.mol_table.specs.Order.{cell_cmp}
-use Rattle.mol_table.specs.Order.{cell_cmp-total, cell_cmp-IsAntisymmetric}
+use Rattle.mol_table.proofs.CellOrder.{cell_cmp-total, cell_cmp-IsAntisymmetric}
 use Rattle.mol_table.specs.Program.{Program, cell, value_at, is_yes, living_at, params_in, same_id}
 use Rattle.mol_table.specs.Rules.{IsProgram}
 use Rattle.mol_table.specs.declared.cell.Cell.{Cell}

@@ -13,7 +13,7 @@ use Rattle.mol_table.specs.Program.{Program, cell}
 use Rattle.mol_table.specs.Rules.{IsProgram}
 use Rattle.mol_table.specs.declared.cell.Cell.{Cell}
 use Rattle.mol_table.specs.declared.cell.Slot.TheVariants as slots
-use Rattle.mol_table.specs.Order.{slot_same}
+use Rattle.mol_table.proofs.CellOrder.{slot_same}
 use Rattle.mol_top.specs.Cells.{has, id_at_slot}
 use Rattle.mol_top.specs.Pairing.{named_twice}
 use Rattle.mol_top.specs.Merge.{differing, twice_at, pairs_in_order}

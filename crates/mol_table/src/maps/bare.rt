@@ -33,7 +33,7 @@ impl Maps {
     }
 
     /// The class in which an identity stands.
-    fn owner(&self, id: &Id) -> Option<Id>
+    pub fn owner(&self, id: &Id) -> Option<Id>
         ensures { result ≡ owner_at (program_in self.now) id.now }
     {
         let cell = Cell {

@@ -22,13 +22,14 @@ impl Maps {
         ensures stands { Stands self.new }
     {
         // No method has more declarations than there are identities.
-        let _size = self.known.len();
+        let size = self.known.len();
         let id = cell.id;
         let was = self.living_of(&id);
-        self.reserve_for(&id, &value)?;
+        let room = self.reserve_for(&id, &value)?;
         self.write(cell, value);
         let now = self.living_of(&id);
         self.recount(was, now);
+        self.arrange(size, room);
         Ok(())
     }
 
@@ -49,7 +50,10 @@ impl Maps {
         self.cells.reserve(values)?;
         self.known.reserve(names)?;
         self.living.reserve(entities.len())?;
+        let room = self.room_to_sort(names)?;
+        let size = self.known.len();
         self.put_entities(entities);
+        self.arrange(size, room);
         Ok(())
     }
 }

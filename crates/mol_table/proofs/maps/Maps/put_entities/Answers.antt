@@ -52,7 +52,8 @@ loop-entity-preserved c =
       program = ap (λ p. with_entities p rest) c.put_entity.ensures.program
           ∙ subst (λ es. with_entities (program_in old) es ≡ with_entities (program_in c.args.self.now) c.args.entities.items) was i.program;
       counted = c.put_entity.ensures.counted;
-      ordered = λ ordered. c.put_entity.ensures.ordered (i.ordered ordered);
+      starts = λ ids starts. c.put_entity.ensures.starts ids (i.starts ids starts);
+      count = omega (arith, ap names_of was, i.count, c.put_entity.ensures.count);
       fresh = subst (λ (p : Program). AreFresh p.known rest) (sym c.put_entity.ensures.program) (still-fresh (program_in old) entity rest differ.0 fresh.1);
       differ = differ.1;
       cells = omega (arith, cells, c.put_entity.ensures.cells_room);

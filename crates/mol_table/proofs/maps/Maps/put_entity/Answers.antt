@@ -1,9 +1,10 @@
-use Rattle.std.proofs.Common.{◌≡◌, ◌∙◌, sym, ap, subst, arith}
+use Rattle.std.proofs.Common.{◌≡◌, ◌∙◌, sym, ap, subst, arith, length}
 use Rattle.std.specs.FinMap.{get}
 use Rattle.mol_table.specs.Counting.{Counted, number_at, counted_by}
-use Rattle.mol_table.specs.Maps.{program_in, counts_in, IsOrdered}
+use Rattle.mol_table.specs.Maps.{program_in, counts_in, StartsWith, names_among}
 use Rattle.mol_table.specs.Program.{living_at}
 use Rattle.mol_table.specs.Writes.{with_entity}
+use Rattle.mol_table.specs.declared.maps.Maps.{Maps}
 use Rattle.mol_table.proofs.Changing.{entity-unchanged, entity-written}
 use Rattle.mol_table.proofs.Counted.{number-le, counted-entity}
 use Rattle.mol_table.proofs.maps.Maps.put_entity.Goals as goal
@@ -32,5 +33,12 @@ returns-clause-counted c =
     subst (λ p. Counted p (counts_in c.count_added.new.self)) (sym program) (subst (Counted new) (sym counts)
     (counted-entity (program_in c.args.self.now) (counts_in c.args.self.now) c.requires.counted c.args.entity c.requires.fresh))
 
-pub returns-clause-ordered : goal.returns-clause-ordered
-returns-clause-ordered c ordered = subst IsOrdered (sym c.count_added.ensures.rest) (c.write_all.ensures.ordered (c.know_as.ensures.ordered ordered))
+pub returns-clause-starts : goal.returns-clause-starts
+returns-clause-starts c ids starts =
+    subst (λ (maps : Maps). StartsWith ids maps.known.entries) (sym c.count_added.ensures.rest) (c.write_all.ensures.starts ids (c.know_as.ensures.starts ids starts))
+
+pub returns-clause-count : goal.returns-clause-count
+returns-clause-count c =
+    let known = ap (λ (maps : Maps). length maps.known.entries) c.count_added.ensures.rest in
+    let values = ap names_among c.into_vec.ensures in
+    omega (arith, known, values, c.write_all.ensures.count, c.know_as.ensures.count)

@@ -15,7 +15,8 @@ loop-param-preserved c =
     record {
       known = ap (λ k. with_params k method (drop (c.loop-param.param-index + 1) params)) c.keep_known.ensures.known
           ∙ subst (λ ps. with_params (program_in c.loop-param.self).known method ps ≡ with_params (program_in c.args.self.now).known method params) next i.known;
-      ordered = λ ordered. c.keep_known.ensures.ordered (i.ordered ordered);
+      starts = λ ids starts. c.keep_known.ensures.starts ids (i.starts ids starts);
+      count = omega (arith, i.count, c.keep_known.ensures.count);
       room = omega (arith, i.room, c.keep_known.ensures.room);
       rest = c.keep_known.ensures.rest ∙ ap (λ (maps : Maps). let more : Maps = record maps { known = new.known } in more) i.rest;
     }

@@ -34,7 +34,8 @@ loop-value-preserved c =
     record {
       program = ap (λ p. with_values p id rest) (c.write.ensures.program ∙ ap (λ s. with_value (program_in old.self) (cell id s) value) c.slot.ensures)
           ∙ subst (λ vs. with_values (program_in old.self) id vs ≡ with_values (program_in c.args.self.now) id c.args.values.items) was i.program;
-      ordered = λ ordered. c.write.ensures.ordered (i.ordered ordered);
+      starts = λ ids starts. c.write.ensures.starts ids (i.starts ids starts);
+      count = omega (arith, names, i.count, c.write.ensures.count);
       cells_room = omega (arith, cells_room, c.write.ensures.cells_room);
       known_room = omega (arith, known_room, c.write.ensures.known_room);
       cells_used = omega (arith, lengths, i.cells_used, c.write.ensures.cells_room);

@@ -2,7 +2,8 @@ use Rattle.std.proofs.Common.{◌≡◌, ◌∙◌, ◌++◌, ◌∷◌, [], sym
 use Rattle.std.proofs.lemmas.List.{take_all}
 use Rattle.std.specs.FinMap.{get, get-empty, get-insert, insert, entries, from_entries}
 use Rattle.indexmap.specs.IndexMap.{keys}
-use Rattle.mol_table.specs.Order.{cell_cmp, cell_cmp-total, cell_cmp-IsAntisymmetric}
+use Rattle.mol_table.specs.Order.{cell_cmp}
+use Rattle.mol_table.proofs.CellOrder.{cell_cmp-total, cell_cmp-IsAntisymmetric}
 use Rattle.mol_table.specs.Maps.{cells_of}
 use Rattle.mol_table.specs.Program.{Cells}
 use Rattle.mol_table.specs.Tidying.{value_by, entry_by}
