@@ -1,0 +1,8 @@
+//! Source files: the tree of each, and each in the one layout.
+#![tactic(auto)]
+
+mod fault;
+mod source;
+
+pub use fault::{SourceFault, UnitFault};
+pub use source::{formatted, line_and_column_of, unit_of};
