@@ -15,8 +15,10 @@ if command -v javac >/dev/null && command -v java >/dev/null; then
 else
     echo "no javac: its times are left out"
 fi
-python3 - "$program" "$work" <<'PY'
-import glob, os, subprocess, sys, time, zipfile
+PYTHONDONTWRITEBYTECODE=1 PYTHONPATH=$here python3 - "$program" "$work" <<'PY'
+import os, subprocess, sys, time
+
+import java_sources
 
 program, work = sys.argv[1:]
 MILLION = 1 << 20
@@ -68,39 +70,10 @@ def compare(what, sources):
     print(f"  ratio to the first run {ours / first:.2f}, to the best run {ours / best:.2f}", flush=True)
 
 
-parts, size, k = ["package gen;\n\npublic class Source {\n"], 0, 0
-while size < MILLION:
-    k += 1
-    part = (f"    private int value{k} = {k};\n\n    /* The sum of step and a value. */\n"
-            f"    public int get{k}(int step, String name) {{\n        // {k} steps\n        int sum = 0;\n"
-            f"        for (int i = 0; i < step; i++) {{\n            sum += this.value{k} * i - 0x{k:x};\n        }}\n"
-            f"        if (sum >= 10 && !name.equals(\"n{k}\\n\")) {{\n            return sum;\n        }}\n"
-            f"        return new Source().get{max(1, k - 1)}(step >> 1, \"a\");\n    }}\n\n")
-    parts.append(part)
-    size += len(part)
-parts.append("}\n")
 print(f"cores {os.cpu_count()}, load {os.getloadavg()[0]:.1f}")
-compare("generated", ["".join(parts).encode()])
+compare("generated", [java_sources.generated("Source", MILLION)])
 
-def java_sources():
-    """The Java sources of the machine's packages, each once: of archives, and single files."""
-    archives, files = set(glob.glob("/usr/lib/jvm/*/src.zip") + glob.glob("/usr/lib/jvm/*/lib/src.zip")), set()
-    for folder, _, names in os.walk("/usr"):
-        archives.update(f"{folder}/{name}" for name in names if name.endswith("-sources.jar"))
-        files.update(f"{folder}/{name}" for name in names if name.endswith(".java"))
-    sources = {}
-    for path in sorted({os.path.realpath(path) for path in archives if os.path.exists(path)}):
-        with zipfile.ZipFile(path) as archive:
-            for name in archive.namelist():
-                if name.endswith(".java"):
-                    sources.setdefault(archive.read(name))
-    for path in sorted({os.path.realpath(path) for path in files if os.path.exists(path)}):
-        with open(path, "rb") as source:
-            sources.setdefault(source.read())
-    return [source for source in sources if b"\0" not in source and len(source) <= MILLION]
-
-
-found = java_sources()
+found = java_sources.of_machine(MILLION)
 if found:
     real = [source for source, line in zip(found, run(found)) if line.startswith("tokens ")]
     print(f"Java sources of the machine: {len(found)} files, of which {len(real)} are of the subset")

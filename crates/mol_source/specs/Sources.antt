@@ -9,6 +9,7 @@ use Rattle.jav_tree.specs.declared.unit.Unit.{Unit as Tree}
 use Rattle.jav_tree.specs.Trees.{IsUnit}
 use Rattle.jav_tree.specs.Layout.{unit_text}
 use Rattle.jav_tree.specs.Parens.{unit_without_parens}
+use Rattle.jav_tree.specs.WithParens.{unit_printed_height}
 use Rattle.jav_rules.specs.BadToken.{most_items, most_height, units, IsFault}
 use Rattle.jav_rules.specs.declared.fault.ParseFault.{ParseFault}
 use Rattle.jav_rules.specs.declared.fault.ParseFault.TheVariants as parse
@@ -61,8 +62,10 @@ RefusesTree tokens (Source (Lex fault)) = ⊥
 RefusesTree tokens (Source (Parse fault)) = IsFault units tokens fault
 RefusesTree tokens OutOfMemory = ⊤
 
--- a source in the one layout: the text of its tree without the parentheses that it was written with
-pub record IsFormatted (bytes text : List ℕ) : Type 0 where
+-- a source in the one layout: the text of its tree without the parentheses that it was written with, and the height of its
+-- tree as printed
+pub record IsFormatted (bytes text : List ℕ) (height : ℕ) : Type 0 where
   pub unit : Tree
   pub is : IsUnitOf bytes unit
   pub layout : text ≡ unit_text (unit_without_parens unit)
+  pub printed : height ≡ unit_printed_height unit

@@ -2,7 +2,9 @@
 #![tactic(auto)]
 
 mod fault;
+mod layout;
 mod source;
 
 pub use fault::{SourceFault, UnitFault};
+pub use layout::Formatted;
 pub use source::{formatted, line_and_column_of, unit_of};

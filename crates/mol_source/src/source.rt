@@ -1,9 +1,7 @@
-//! The tree of a source, and its text in the one layout.
+//! The tree of a source, and a source in the one layout.
 ghost use Rattle.std.specs.Prelude.{◌≡◌, ◌<◌, ◌^◌, ◌⊎◌, ◌+◌, length, IfOk, IfErr, Ok, Err};
 ghost use Rattle.mol_base.specs.Source.{IsSource};
 ghost use Rattle.jav_lex.specs.Token.{all_seen};
-ghost use Rattle.jav_tree.specs.Layout.{unit_text};
-ghost use Rattle.jav_tree.specs.Parens.{unit_without_parens};
 ghost use Rattle.jav_tree.specs.Trees.{IsUnit};
 ghost use Rattle.jav_tree.specs.declared.unit.Unit.{Unit as Tree};
 ghost use Rattle.jav_rules.specs.BadToken.{most_items, most_height};
@@ -12,9 +10,9 @@ ghost use Rattle.mol_source.specs.FaultTexts.{place};
 ghost use Rattle.mol_source.specs.Sources.{IsUnitOf, IsFormatted, IsFaultOf, FaultsAs, RefusesTokens, RefusesTree};
 
 use crate::fault::{SourceFault, UnitFault};
+use crate::layout::{Formatted, formatted_unit};
 use jav_lex::{Token, lex};
 use jav_parse::parse;
-use jav_print::print;
 use jav_tree::Unit;
 use mol_base::{List, OutOfMemory, line_and_column};
 use std::alloc::Global;
@@ -60,27 +58,19 @@ fn tree_of(alloc: Global, tokens: &[Token]) -> Result<Unit, UnitFault>
     }
 }
 
-/// A source file in the one layout: the text of its tree after the parentheses that it was written with are dropped.
+/// A source file in the one layout, and how high its tree is as printed.
 ///
 /// Faults are those of `unit_of`. The time is linear in the bytes and in the text, but for sorting the imports.
-pub fn formatted(alloc: Global, bytes: &[u8]) -> Result<List<u8>, UnitFault>
+pub fn formatted(alloc: Global, bytes: &[u8]) -> Result<Formatted, UnitFault>
     requires { length bytes.now < 2 ^ 32 }
-    ensures text { IfOk result (IsFormatted bytes.now) }
+    ensures formatted { IfOk result (λ formatted. IsFormatted bytes.now formatted.text formatted.height) }
     ensures fault { IfErr result (FaultsAs bytes.now) }
 {
     let unit = unit_of(alloc, bytes)?;
-    match text_of(alloc, unit) {
-        Ok(text) => Ok(text),
+    match formatted_unit(alloc, unit) {
+        Ok(formatted) => Ok(formatted),
         Err(OutOfMemory) => Err(UnitFault::OutOfMemory),
     }
-}
-
-/// The text of a tree without the parentheses that it was written with.
-fn text_of(alloc: Global, unit: Unit) -> Result<List<u8>, OutOfMemory>
-    ensures { IfOk result (λ text. text ≡ unit_text (unit_without_parens unit)) }
-{
-    let unit = unit.drop_parens(alloc)?;
-    print(alloc, &unit)
 }
 
 /// The line and the column of a fault of a source. Both count from 1, the column in characters.

@@ -9,13 +9,13 @@ use Rattle.std.specs.FinMap.{get}
 use Rattle.mol_base.specs.declared.ident.Id.{Id}
 use Rattle.mol_table.specs.Agreement.{LivingAgree}
 use Rattle.mol_table.specs.Life.{entity_in, is_living_entity, lives}
-use Rattle.mol_table.specs.Order.{slot_number}
+use Rattle.mol_values.specs.Order.{slot_number}
 use Rattle.mol_table.proofs.CellOrder.{every_slot, slot_at}
 use Rattle.mol_table.specs.Program.{Program}
 use Rattle.mol_table.specs.Sameness.{Same}
-use Rattle.mol_table.specs.declared.cell.Slot.{Slot}
-use Rattle.mol_table.specs.declared.cell.Slot.TheVariants as slots
-use Rattle.mol_table.specs.declared.known.Known.{Known}
+use Rattle.mol_values.specs.declared.cell.Slot.{Slot}
+use Rattle.mol_values.specs.declared.cell.Slot.TheVariants as slots
+use Rattle.mol_values.specs.declared.known.Known.{Known}
 
 slot_below : (slot : Slot) → slot_number slot < 14
 slot_below slots.Live = omega arith

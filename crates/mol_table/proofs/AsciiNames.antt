@@ -1,6 +1,6 @@
 -- A letter and then letters and digits, all ASCII, are a name where they are no reserved word.
 use Rattle.std.proofs.Common.{◌≡◌, ℕ, zero, suc, ◌<◌, ◌≤◌, ◌==◌, Bool, true, false, ◌||◌, ◌&&◌, List, [], ◌∷◌, length, refl, sym, ap, ◌∙◌, arith, true≢false}
-use Rattle.std.specs.Prelude.{All, IsTrue, Contains, codes, slice_index}
+use Rattle.std.specs.Prelude.{All, IsTrue, slice_index}
 use Rattle.std.specs.Char.{is_ascii_alphabetic, is_ascii_alphanumeric}
 use Rattle.std.specs.List.{list_all}
 use Rattle.std.proofs.lemmas.Bool.{and_parts, or_left}
@@ -12,7 +12,6 @@ use Rattle.std.proofs.lemmas.Str.Ascii.{IsAscii-from_all}
 use Rattle.std.specs.Str.{bytes_eq}
 use Rattle.mol_base.proofs.Members.{is_among, is_among-Contains}
 use Rattle.mol_base.proofs.OneToken.{token_kind-IsOneToken}
-use Rattle.mol_base.specs.Lexical.Escapes.{HasNoEscape}
 use Rattle.mol_base.specs.Lexical.Forms.Name.{IsName, IsIdentifier, IsWord}
 use Rattle.mol_base.specs.Lexical.Names.{is_start, is_part, keywords, word_literals}
 use Rattle.mol_base.specs.Lexical.Tokens.{IsOneToken}

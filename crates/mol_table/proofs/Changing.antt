@@ -11,14 +11,14 @@ use Rattle.mol_table.specs.Life.{entity_in}
 use Rattle.mol_table.specs.Maps.{program_in, counts_in, counts_of, cells_of, knowns_of, IsOrdered, Stands, AreFresh, AreApart}
 use Rattle.mol_table.specs.Program.{Program, Knowns, same_id}
 use Rattle.mol_table.specs.Rules.{IsProgram}
-use Rattle.mol_table.specs.Slots.{has_slot}
+use Rattle.mol_values.specs.Slots.{has_slot}
 use Rattle.mol_table.specs.Writes.{with_value, with_values, with_entity, known_as}
-use Rattle.mol_table.specs.declared.cell.Cell.{Cell}
-use Rattle.mol_table.specs.declared.cell.Slot.{Slot}
+use Rattle.mol_values.specs.declared.cell.Cell.{Cell}
+use Rattle.mol_values.specs.declared.cell.Slot.{Slot}
 use Rattle.mol_table.specs.declared.entity.NewEntity.{NewEntity}
-use Rattle.mol_table.specs.declared.known.Known.{Known}
+use Rattle.mol_values.specs.declared.known.Known.{Known}
 use Rattle.mol_table.specs.declared.maps.Maps.{Maps}
-use Rattle.mol_table.specs.declared.value.Value.{Value}
+use Rattle.mol_values.specs.declared.value.Value.{Value}
 use Rattle.mol_table.proofs.Counted.{counted-value, number-recounted, recounted-kept, number-some}
 use Rattle.mol_table.proofs.Living.{id_tied}
 

@@ -1,26 +1,24 @@
 -- A class may be given another name.
-use Rattle.std.proofs.Common.{◌≡◌, ◌==◌, ℕ, List, refl, sym, ap, subst, ◌∙◌, Bool, true, false, cond, ◌&&◌, Option, Some, is_some, IsTrue}
-use Rattle.std.specs.List.{list_all}
+use Rattle.std.proofs.Common.{◌≡◌, ◌==◌, ℕ, List, refl, sym, ap, subst, ◌∙◌, Bool, true, false, cond, ◌&&◌, Some, is_some, IsTrue}
 use Rattle.std.specs.Ordering.{eq_by_cmp}
 use Rattle.std.specs.FinMap.{get, get-insert}
 use Rattle.mol_base.specs.Order.{id_cmp}
 use Rattle.mol_base.specs.declared.ident.Id.{Id}
 use Rattle.mol_table.specs.Forms.{has_form}
-use Rattle.mol_table.specs.Mentions.{Mention, mentions}
-use Rattle.mol_table.specs.Order.{cell_cmp, slot_number}
+use Rattle.mol_values.specs.Order.{cell_cmp, slot_number}
 use Rattle.mol_table.proofs.CellOrder.{cell_cmp-total, cell_cmp-IsAntisymmetric}
 use Rattle.mol_table.specs.Program.{Program, same_id, cell, value_at}
-use Rattle.mol_table.specs.Rules.{IsProgram, fills, is_declared, refers_rightly}
-use Rattle.mol_table.specs.Slots.{has_slot}
+use Rattle.mol_table.specs.Rules.{IsProgram, is_declared, refers_rightly}
+use Rattle.mol_values.specs.Slots.{has_slot}
 use Rattle.mol_table.specs.TokenForms.{is_name}
 use Rattle.mol_table.specs.Writes.{with_value}
-use Rattle.mol_table.specs.declared.cell.Cell.{Cell}
-use Rattle.mol_table.specs.declared.cell.Slot.{Slot}
-use Rattle.mol_table.specs.declared.cell.Slot.TheVariants as slots
-use Rattle.mol_table.specs.declared.known.Known.{Known}
-use Rattle.mol_table.specs.declared.known.Known.TheVariants as knowns
-use Rattle.mol_table.specs.declared.value.Value.{Value}
-use Rattle.mol_table.specs.declared.value.Value.TheVariants as values
+use Rattle.mol_values.specs.declared.cell.Cell.{Cell}
+use Rattle.mol_values.specs.declared.cell.Slot.{Slot}
+use Rattle.mol_values.specs.declared.cell.Slot.TheVariants as slots
+use Rattle.mol_values.specs.declared.known.Known.{Known}
+use Rattle.mol_values.specs.declared.known.Known.TheVariants as knowns
+use Rattle.mol_values.specs.declared.value.Value.{Value}
+use Rattle.mol_values.specs.declared.value.Value.TheVariants as values
 use Rattle.mol_table.proofs.Counts.{tied}
 use Rattle.mol_table.proofs.NewClasses.{both-tied}
 use Rattle.mol_table.proofs.Writing.{cells-kept}

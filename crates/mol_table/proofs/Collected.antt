@@ -9,7 +9,8 @@ use Rattle.mol_base.specs.declared.ident.Id.{Id}
 use Rattle.mol_table.specs.Life.{lives}
 use Rattle.mol_table.specs.Looked.{HasNames}
 use Rattle.mol_table.specs.Program.{Program, same_id}
-use Rattle.mol_table.specs.Renaming.{names_of, AreApart, AreNames, IsInOrder}
+use Rattle.mol_table.specs.Numbering.{AreApart, AreNames, IsInOrder}
+use Rattle.mol_values.specs.Renaming.{names_of}
 use Rattle.mol_table.specs.Renumber.{base_id, number}
 use Rattle.mol_table.proofs.Copying.{take-item}
 use Rattle.mol_table.proofs.Counts.{none-some}
@@ -89,7 +90,7 @@ named-all ids i names all named = record {
 
 module _ (test : Id → Bool) (num : Id → ℕ) (many : ℕ) (ids : List Id) (order : IsInOrder test num many ids) where
   pub order-apart : AreApart ids
-  order-apart j k d one other e = suc-same j k (sym (order.numbers j d one) ∙ ap num e ∙ order.numbers k d other) where
+  order-apart j k d first second e = suc-same j k (sym (order.numbers j d first) ∙ ap num e ∙ order.numbers k d second) where
     suc-same : (j k : ℕ) → suc j ≡ suc k → j ≡ k
     suc-same j k e = omega (arith, e)
 
@@ -112,19 +113,19 @@ module _ (test : Id → Bool) (num : Id → ℕ) (many : ℕ) (ids : List Id) (o
       none None is = is
       none (Some new) is = absurd (true≢false (sym (named.only id new is) ∙ order.has id ∙ e))
 
-  pub order-same : (one other : Id) → test one ≡ true → test other ≡ true → num one ≡ num other → one ≡ other
-  order-same one other first second e =
-      let j = place-of one ids (order.has one ∙ first) in
-      let k = place-of other ids (order.has other ∙ second) in
-      let at-j = sym (order.numbers j.0 one j.1) ∙ ap num j.2 in
-      let at-k = sym (order.numbers k.0 other k.1) ∙ ap num k.2 in
+  pub order-same : (first second : Id) → test first ≡ true → test second ≡ true → num first ≡ num second → first ≡ second
+  order-same first second first-passes second-passes e =
+      let j = place-of first ids (order.has first ∙ first-passes) in
+      let k = place-of second ids (order.has second ∙ second-passes) in
+      let at-j = sym (order.numbers j.0 first j.1) ∙ ap num j.2 in
+      let at-k = sym (order.numbers k.0 second k.1) ∙ ap num k.2 in
       let same : j.0 ≡ k.0 = omega (arith, at-j, at-k, e) in
-      sym j.2 ∙ get_or_default ids j.0 one other j.1 ∙ ap (λ n. get_or ids n other) same ∙ k.2
+      sym j.2 ∙ get_or_default ids j.0 first second j.1 ∙ ap (λ n. get_or ids n second) same ∙ k.2
 
 pub has-names : (program : Program) (many : ℕ) (ids : List Id) (names : List (Id × Id)) → IsInOrder (lives program) (number program) many ids → AreNames ids names → HasNames program names
 has-names program many ids names order named = record {
   at = order-number (lives program) (number program) many ids order names named;
-  apart = λ one other first second e.
-      order-same (lives program) (number program) many ids order one other first second
-      (ap (λ (id : Id). id.num) (sym (ap (λ b. cond b (base_id (number program one)) one) first) ∙ e ∙ ap (λ b. cond b (base_id (number program other)) other) second));
+  apart = λ first second first-lives second-lives e.
+      order-same (lives program) (number program) many ids order first second first-lives second-lives
+      (ap (λ (id : Id). id.num) (sym (ap (λ b. cond b (base_id (number program first)) first) first-lives) ∙ e ∙ ap (λ b. cond b (base_id (number program second)) second) second-lives));
 }

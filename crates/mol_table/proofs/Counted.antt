@@ -11,13 +11,13 @@ use Rattle.mol_table.specs.Program.{Program, same_id, living_at}
 use Rattle.mol_table.specs.Rules.{IsProgram, fills}
 use Rattle.mol_table.specs.Mentions.{a_method}
 use Rattle.mol_table.specs.Writes.{with_value, with_entity}
-use Rattle.mol_table.specs.declared.cell.Cell.{Cell}
+use Rattle.mol_values.specs.declared.cell.Cell.{Cell}
 use Rattle.mol_table.specs.declared.entity.NewEntity.{NewEntity}
-use Rattle.mol_table.specs.declared.kind.MethodKind.{MethodKind}
-use Rattle.mol_table.specs.declared.known.Known.{Known}
-use Rattle.mol_table.specs.declared.known.Known.TheVariants as knowns
+use Rattle.mol_values.specs.declared.kind.MethodKind.{MethodKind}
+use Rattle.mol_values.specs.declared.known.Known.{Known}
+use Rattle.mol_values.specs.declared.known.Known.TheVariants as knowns
 use Rattle.mol_table.specs.declared.maps.Maps.{Maps}
-use Rattle.mol_table.specs.declared.value.Value.{Value}
+use Rattle.mol_values.specs.declared.value.Value.{Value}
 use Rattle.mol_table.proofs.Counts.{none-some, count-le, part-le}
 use Rattle.mol_table.proofs.Living.{same_id-own, id_tied, counts_for-is, moves-value, moves-entity, entity-elsewhere, number-raised, number-lowered}
 use Rattle.mol_table.proofs.Writing.{method-kept}
@@ -112,11 +112,11 @@ recounted-kept counts was now method is = by (same_method was now) where
   by true = is
   by false = raised-kept (lowered counts was) now method (lowered-kept counts was method is)
 
-same_method-is : (one other : Option Id) → same_method one other ≡ true → one ≡ other
+same_method-is : (first second : Option Id) → same_method first second ≡ true → first ≡ second
 same_method-is None None e = refl
-same_method-is (Some one) (Some other) e = ap (λ m. Some m) (id_tied one other e)
-same_method-is None (Some other) e = absurd cc
-same_method-is (Some one) None e = absurd cc
+same_method-is (Some first) (Some second) e = ap (λ m. Some m) (id_tied first second e)
+same_method-is None (Some second) e = absurd cc
+same_method-is (Some first) None e = absurd cc
 
 pub number-recounted : (counts : Counts) (was now : Option Id) (method : Id) → one_if (is_of method was) ≤ number_at counts method
     → number_at (recounted counts was now) method + one_if (is_of method was) ≡ number_at counts method + one_if (is_of method now)
@@ -166,13 +166,13 @@ place-own counts id o b kind is =
     ∙ ap is_some (get-insert id_cmp-total counts id (number_at counts id) id)
     ∙ ap (λ same. is_some (cond same (Some (number_at counts id)) (get counts id))) (same_id-own id)
 
-method-same : (one other : Option Known) (kind : MethodKind) → entity_in one ≡ entity_in other → one ≡ Some (knowns.Method kind) → other ≡ Some (knowns.Method kind)
-method-same one None kind e is = absurd (none-some _ (sym e ∙ ap entity_in is))
-method-same one (Some knowns.Class) kind e is = sym e ∙ ap entity_in is
-method-same one (Some (knowns.Method own)) kind e is = sym e ∙ ap entity_in is
-method-same one (Some (knowns.Decl own)) kind e is = sym e ∙ ap entity_in is
-method-same one (Some knowns.Field) kind e is = sym e ∙ ap entity_in is
-method-same one (Some (knowns.Param own)) kind e is = absurd (none-some _ (sym e ∙ ap entity_in is))
+method-same : (first second : Option Known) (kind : MethodKind) → entity_in first ≡ entity_in second → first ≡ Some (knowns.Method kind) → second ≡ Some (knowns.Method kind)
+method-same first None kind e is = absurd (none-some _ (sym e ∙ ap entity_in is))
+method-same first (Some knowns.Class) kind e is = sym e ∙ ap entity_in is
+method-same first (Some (knowns.Method own)) kind e is = sym e ∙ ap entity_in is
+method-same first (Some (knowns.Decl own)) kind e is = sym e ∙ ap entity_in is
+method-same first (Some knowns.Field) kind e is = sym e ∙ ap entity_in is
+method-same first (Some (knowns.Param own)) kind e is = absurd (none-some _ (sym e ∙ ap entity_in is))
 
 pub counted-entity : (program : Program) (counts : Counts) → Counted program counts → (entity : NewEntity) → entity_in (get program.known entity.id) ≡ None
     → Counted (with_entity program entity) (counted_by counts entity.id (get (with_entity program entity).known entity.id) (living_at (with_entity program entity) entity.id))

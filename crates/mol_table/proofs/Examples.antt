@@ -1,5 +1,5 @@
 -- Worked examples of forms and of tidying.
-use Rattle.std.specs.Prelude.{◌≡◌, ℕ, true, false, List, [], ◌∷◌, codes, None, Some, refl}
+use Rattle.std.specs.Prelude.{◌≡◌, ℕ, true, false, List, [], ◌∷◌, codes, None, refl}
 use Rattle.mol_base.specs.Modifiers.{class_words, field_words, kept_words, constructor_words}
 use Rattle.mol_base.specs.declared.ident.Id.{Id}
 use Rattle.mol_table.specs.Forms.{differ}
@@ -7,11 +7,11 @@ use Rattle.mol_table.specs.Mentions.{a_param}
 use Rattle.mol_table.specs.Rules.{fills}
 use Rattle.mol_table.specs.Tidy.{arguments_for, filler_expr}
 use Rattle.mol_table.specs.Words.{are_words}
-use Rattle.mol_table.specs.declared.iexpr.Argument.{Argument}
-use Rattle.mol_table.specs.declared.iexpr.IExpr.{IExpr}
-use Rattle.mol_table.specs.declared.iexpr.IExpr.TheVariants as exprs
-use Rattle.mol_table.specs.declared.itype.IType.TheVariants as types
-use Rattle.mol_table.specs.declared.param.Param.{Param}
+use Rattle.mol_values.specs.declared.iexpr.Argument.{Argument}
+use Rattle.mol_values.specs.declared.iexpr.IExpr.{IExpr}
+use Rattle.mol_values.specs.declared.iexpr.IExpr.TheVariants as exprs
+use Rattle.mol_values.specs.declared.itype.IType.TheVariants as types
+use Rattle.mol_values.specs.declared.param.Param.{Param}
 
 -- an identity of the base
 abbrev base : ℕ → Id

@@ -6,9 +6,8 @@ use Rattle.std.specs.List.Sorted.{IsPermutation, IsSorted}
 use Rattle.std.specs.Cmp.{eq_by_cmp_equiv}
 use Rattle.std.specs.FinMap.{get, same_map}
 use Rattle.std.specs.Map.{lookup}
-use Rattle.std.specs.Ordering.{eq_by_cmp, is_lt, ordering_reverse}
-use Rattle.std.specs.declared.cmp.Ordering.TheVariants.{Less}
-use Rattle.std.proofs.lemmas.List.{get_or-append-add, get_or-take, get_or_append_left, get_or_default, length-map, length-take, take-append-drop}
+use Rattle.std.specs.Ordering.{is_lt, ordering_reverse}
+use Rattle.std.proofs.lemmas.List.{get_or-append-add, get_or_append_left, get_or_default, length-map, length-take, take-append-drop}
 use Rattle.std.proofs.lemmas.List.Edits.{swapped_from_swap}
 use Rattle.std.proofs.lemmas.List.Quantifiers.{position-Some}
 use Rattle.std.proofs.lemmas.List.Sorted.{IsPermutation-append, IsPermutation-refl, length_permutation, list_any-IsPermutation}
@@ -18,14 +17,14 @@ use Rattle.mol_base.specs.declared.ident.Id.{Id}
 use Rattle.mol_base.specs.Order.{id_cmp, id_cmp-total, id_cmp-IsAntisymmetric}
 use Rattle.mol_table.specs.Identities.{AscendsTo, IsAscending}
 use Rattle.mol_table.specs.Maps.{StartsWith, knowns_of}
-use Rattle.mol_table.specs.Order.{id_eq}
+use Rattle.mol_values.specs.Order.{id_eq}
 use Rattle.mol_table.specs.Program.{same_id}
-use Rattle.mol_table.specs.declared.known.Known.{Known}
-use Rattle.mol_table.specs.declared.known.Known.TheVariants as knowns
+use Rattle.mol_values.specs.declared.known.Known.{Known}
+use Rattle.mol_values.specs.declared.known.Known.TheVariants as knowns
 use Rattle.mol_table.proofs.Living.{id_tied, same_id-own}
-use Rattle.mol_table.proofs.Lookups.{get_is}
+use Rattle.mol_values.proofs.Lookups.{get_is}
 use Rattle.mol_table.proofs.Programs.{ascending, keys-known}
-use Rattle.mol_table.proofs.Ties.{id_ties}
+use Rattle.mol_values.proofs.Ties.{id_ties}
 
 abbrev pub ids_of : List (Id × Known) → List Id
 ids_of entries = map (λ entry. entry.0) entries
@@ -101,15 +100,6 @@ starts-longer old new starts =
     let both = length-append (ids_of old) starts.0 in
     let same = ap length starts.1 in
     omega (arith, first, after, both, same)
-
-pub front-ascends : (ids xs ys : List Id) (from : ℕ) → xs ≡ take from ids ++ ys → from ≤ length ids → AscendsTo from ids → AscendsTo from xs
-front-ascends ids xs ys from is long up k d within =
-    (λ i. id_cmp (at k (omega arith) i) (at (k + 1) (omega arith) i)) ∙ up k d within
-  where
-    at : (j : ℕ) → j < from → get_or xs j d ≡ get_or ids j d
-    at j lt =
-        let short = length-take from ids in
-        ap (λ zs. get_or zs j d) is ∙ get_or_append_left (take from ids) ys d j (omega (arith, short)) ∙ get_or-take from ids j d lt
 
 -- ---- entries that are put into an order
 
@@ -196,10 +186,3 @@ module _ (old : List (Id × Known)) (order : List Id) (from : ℕ) (fits : from 
   next-found now place at id d within is found =
       sym (id_tied id (get_or (ids_of now) at d) (sym (id_ties id (get_or (ids_of now) at d)) ∙ (position-Some (id_eq id) (ids_of now) at d found).1))
       ∙ is ∙ get_or_default order place id d within ∙ sym (ordered-at place d)
-
--- the front of a list that was written over another
-pub take-front : (xs ys : List Id) (n : ℕ) → n ≡ length xs → take n (xs ++ ys) ≡ xs
-take-front xs ys n e = ap (λ k. take k (xs ++ ys)) e ∙ front xs where
-  front : (xs : List Id) → take (length xs) (xs ++ ys) ≡ xs
-  front [] = refl
-  front (x ∷ xs) = ap (λ rest. x ∷ rest) (front xs)

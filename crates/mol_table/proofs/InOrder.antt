@@ -15,7 +15,7 @@ use Rattle.std.specs.declared.cmp.Ordering.TheVariants.{Less, Equal, Greater}
 use Rattle.mol_base.specs.declared.ident.Id.{Id}
 use Rattle.mol_table.specs.Counting.{one_if, passing}
 use Rattle.mol_table.specs.Program.{same_id}
-use Rattle.mol_table.specs.Renaming.{IsInOrder}
+use Rattle.mol_table.specs.Numbering.{IsInOrder}
 use Rattle.mol_table.proofs.Counts.{tied}
 use Rattle.mol_table.proofs.Living.{id_tied, same_id-own}
 

@@ -8,20 +8,20 @@ use Rattle.mol_base.specs.Lexical.Characters.{first}
 use Rattle.mol_base.specs.declared.ident.Id.{Id}
 use Rattle.mol_base.specs.Operators.{is_prefix, is_step}
 use Rattle.mol_table.specs.ExpressionForms as forms
-use Rattle.mol_table.specs.ExpressionForms.{Shape, plain, target, statement, is_value, is_first_value, are_values, are_arguments, shape_of, is_binary, is_initial, is_expression, is_statement}
+use Rattle.mol_table.specs.ExpressionForms.{Shape, plain, target, statement, is_value, is_first_value, are_values, are_arguments, shape_of}
 use Rattle.mol_table.specs.Mentions as mention
-use Rattle.mol_table.specs.Mentions.{Role, Mention, a_class, a_constructor, named, joined, expr_mentions}
+use Rattle.mol_table.specs.Mentions.{Mention, a_constructor, named, joined, expr_mentions}
 use Rattle.mol_table.specs.Program.{same_id}
 use Rattle.mol_table.specs.Tidy as tidy
 use Rattle.mol_table.specs.Tidy.{value_of, argument_for, arguments_for, filler_expr, creation, tidy_expr, tidy_argument}
 use Rattle.mol_table.specs.TokenForms.{is_literal, is_filler}
-use Rattle.mol_table.specs.declared.iexpr.Argument.{Argument, fold-Argument}
-use Rattle.mol_table.specs.declared.iexpr.IExpr.{IExpr}
-use Rattle.mol_table.specs.declared.iexpr.IExpr.TheOpen.{IExpr-F}
-use Rattle.mol_table.specs.declared.iexpr.IExpr.TheFolds.{fold-roll-IExpr, fold-roll-Argument, ind-IExpr, map-IExpr}
-use Rattle.mol_table.specs.declared.iexpr.IExpr.TheVariants as exprs
-use Rattle.mol_table.specs.declared.iexpr.IExpr.TheViews.{roll-IExpr, roll-Argument}
-use Rattle.mol_table.specs.declared.param.Param.{Param}
+use Rattle.mol_values.specs.declared.iexpr.Argument.{Argument, fold-Argument}
+use Rattle.mol_values.specs.declared.iexpr.IExpr.{IExpr}
+use Rattle.mol_values.specs.declared.iexpr.IExpr.TheOpen.{IExpr-F}
+use Rattle.mol_values.specs.declared.iexpr.IExpr.TheFolds.{fold-roll-IExpr, fold-roll-Argument, ind-IExpr, map-IExpr}
+use Rattle.mol_values.specs.declared.iexpr.IExpr.TheVariants as exprs
+use Rattle.mol_values.specs.declared.iexpr.IExpr.TheViews.{roll-IExpr, roll-Argument}
+use Rattle.mol_values.specs.declared.param.Param.{Param}
 use Rattle.mol_table.proofs.Fillers.{filler-number, filler-literal}
 use Rattle.mol_table.proofs.Tidied.{argument_is}
 

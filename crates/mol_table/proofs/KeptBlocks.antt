@@ -5,33 +5,33 @@ use Rattle.std.proofs.Common.{suc, refl, sym, ap, subst, ◌∙◌}
 use Rattle.std.specs.List.{list_all, flat_map}
 use Rattle.std.specs.Option.{option_map_or}
 use Rattle.mol_base.specs.declared.ident.Id.{Id}
-use Rattle.mol_table.specs.Blocks.{block_of, branch_of}
+use Rattle.mol_values.specs.Blocks.{block_of, branch_of}
 use Rattle.mol_table.specs.ExpressionForms.{is_value, shape_of, is_initial, is_expression, is_statement, are_arguments}
 use Rattle.mol_table.specs.Mentions as mention
-use Rattle.mol_table.specs.Mentions.{Role, Mention, a_class, a_constructor, named, joined, type_mentions, expr_mentions, exprs_mentions, maybe_mentions, arguments_mentions, let_mentions, start_mentions}
+use Rattle.mol_table.specs.Mentions.{Mention, a_constructor, named, joined, type_mentions, expr_mentions, exprs_mentions, maybe_mentions, arguments_mentions, let_mentions, start_mentions}
 use Rattle.mol_table.specs.StatementForms as forms
 use Rattle.mol_table.specs.StatementForms.{StatementShape, BlockShape, ordinary, super_first, is_maybe, is_declarator, is_let, is_start, are_formed, has_super, block_shape, is_body}
 use Rattle.mol_table.specs.Tidy as tidy
 use Rattle.mol_table.specs.Tidy.{arguments_for, tidy_expr, tidy_argument, tidy_declarator, tidy_let, tidy_start, tidy_else, tidy_node, tidy_block, tidy_if, tidy_statement, tidy_body}
 use Rattle.mol_table.specs.TokenForms.{are_comments}
-use Rattle.mol_table.specs.declared.iblock.IBlock.{IBlock, fold-IBlock}
-use Rattle.mol_table.specs.declared.iblock.IBody.{IBody}
-use Rattle.mol_table.specs.declared.iblock.IDeclarator.{IDeclarator}
-use Rattle.mol_table.specs.declared.iblock.IElse.{IElse, fold-IElse}
-use Rattle.mol_table.specs.declared.iblock.IElse.TheFolds.{fold-roll-IElse, fold-roll-IStmtNode, fold-roll-IBlock, fold-roll-IIf, fold-roll-IStmt, map-IElse, map-IStmtNode, ind-IBlock}
-use Rattle.mol_table.specs.declared.iblock.IElse.TheOpen.{IElse-F, IStmtNode-F}
-use Rattle.mol_table.specs.declared.iblock.IElse.TheVariants as elses
-use Rattle.mol_table.specs.declared.iblock.IElse.TheViews.{roll-IElse, roll-IStmtNode, roll-IBlock, roll-IIf, roll-IStmt}
-use Rattle.mol_table.specs.declared.iblock.IForStart.{IForStart}
-use Rattle.mol_table.specs.declared.iblock.IForStart.TheVariants as starts
-use Rattle.mol_table.specs.declared.iblock.IIf.{IIf, fold-IIf}
-use Rattle.mol_table.specs.declared.iblock.ILet.{ILet}
-use Rattle.mol_table.specs.declared.iblock.IStmt.{IStmt, fold-IStmt}
-use Rattle.mol_table.specs.declared.iblock.IStmtNode.{IStmtNode, fold-IStmtNode}
-use Rattle.mol_table.specs.declared.iblock.IStmtNode.TheVariants as nodes
-use Rattle.mol_table.specs.declared.iexpr.Argument.{Argument}
-use Rattle.mol_table.specs.declared.iexpr.IExpr.{IExpr}
-use Rattle.mol_table.specs.declared.param.Param.{Param}
+use Rattle.mol_values.specs.declared.iblock.IBlock.{IBlock, fold-IBlock}
+use Rattle.mol_values.specs.declared.iblock.IBody.{IBody}
+use Rattle.mol_values.specs.declared.iblock.IDeclarator.{IDeclarator}
+use Rattle.mol_values.specs.declared.iblock.IElse.{IElse, fold-IElse}
+use Rattle.mol_values.specs.declared.iblock.IElse.TheFolds.{fold-roll-IElse, fold-roll-IStmtNode, fold-roll-IBlock, fold-roll-IIf, fold-roll-IStmt, map-IElse, map-IStmtNode, ind-IBlock}
+use Rattle.mol_values.specs.declared.iblock.IElse.TheOpen.{IElse-F, IStmtNode-F}
+use Rattle.mol_values.specs.declared.iblock.IElse.TheVariants as elses
+use Rattle.mol_values.specs.declared.iblock.IElse.TheViews.{roll-IElse, roll-IStmtNode, roll-IBlock, roll-IIf, roll-IStmt}
+use Rattle.mol_values.specs.declared.iblock.IForStart.{IForStart}
+use Rattle.mol_values.specs.declared.iblock.IForStart.TheVariants as starts
+use Rattle.mol_values.specs.declared.iblock.IIf.{IIf, fold-IIf}
+use Rattle.mol_values.specs.declared.iblock.ILet.{ILet}
+use Rattle.mol_values.specs.declared.iblock.IStmt.{IStmt, fold-IStmt}
+use Rattle.mol_values.specs.declared.iblock.IStmtNode.{IStmtNode, fold-IStmtNode}
+use Rattle.mol_values.specs.declared.iblock.IStmtNode.TheVariants as nodes
+use Rattle.mol_values.specs.declared.iexpr.Argument.{Argument}
+use Rattle.mol_values.specs.declared.iexpr.IExpr.{IExpr}
+use Rattle.mol_values.specs.declared.param.Param.{Param}
 use Rattle.mol_table.proofs.Kept.{and-imp, all-imp, value-kept, are_fillers, Kept, kept, arguments-kept, mentions-kept}
 
 -- a statement, and a block, that may stand wherever the other may

@@ -13,14 +13,14 @@ use Rattle.indexmap.specs.IndexMap.{keys}
 use Rattle.mol_table.specs.Counting.{one_if, passing}
 use Rattle.mol_table.specs.Life.{lives_as, lives}
 use Rattle.mol_table.specs.Maps.{program_in, IsOrdered}
-use Rattle.mol_table.specs.Order.{id_eq}
+use Rattle.mol_values.specs.Order.{id_eq}
 use Rattle.mol_table.specs.Program.{Program, same_id, living_at}
 use Rattle.mol_table.specs.Renumber.{is_class, is_living_class}
-use Rattle.mol_table.specs.declared.known.Known.{Known}
-use Rattle.mol_table.specs.declared.known.Known.TheVariants as knowns
+use Rattle.mol_values.specs.declared.known.Known.{Known}
+use Rattle.mol_values.specs.declared.known.Known.TheVariants as knowns
 use Rattle.mol_table.specs.declared.maps.Maps.{Maps}
 use Rattle.mol_table.proofs.InOrder.{Adjacent, adjacent, below}
-use Rattle.mol_table.proofs.Ties.{id_ties}
+use Rattle.mol_values.proofs.Ties.{id_ties}
 
 abbrev ids_of : List (Id × Known) → List Id
 ids_of es = map (λ e. e.0) es

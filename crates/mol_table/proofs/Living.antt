@@ -8,22 +8,22 @@ use Rattle.mol_base.specs.Order.{id_cmp-total, id_cmp-IsAntisymmetric}
 use Rattle.mol_base.specs.declared.ident.Id.{Id}
 use Rattle.mol_table.specs.Counting.{one_if, count, Counts, number_at, living_decls, living_as, living_of, is_of, raised, lowered}
 use Rattle.mol_table.specs.Life.{is_decl_of, is_living_decl, entity_in}
-use Rattle.mol_table.specs.Order.{cell_cmp}
+use Rattle.mol_values.specs.Order.{cell_cmp}
 use Rattle.mol_table.proofs.CellOrder.{cell_cmp-total, cell_cmp-IsAntisymmetric}
 use Rattle.mol_table.specs.Program.{Program, Knowns, same_id, cell, is_yes, living_at}
-use Rattle.mol_table.specs.Slots.{slot_of}
+use Rattle.mol_values.specs.Slots.{slot_of}
 use Rattle.mol_table.specs.Writes.{kept_or, with_params, known_by, with_value, with_values, known_as, with_entity}
-use Rattle.mol_table.specs.declared.cell.Cell.{Cell}
-use Rattle.mol_table.specs.declared.cell.Slot.{Slot}
-use Rattle.mol_table.specs.declared.cell.Slot.TheVariants as slots
+use Rattle.mol_values.specs.declared.cell.Cell.{Cell}
+use Rattle.mol_values.specs.declared.cell.Slot.{Slot}
+use Rattle.mol_values.specs.declared.cell.Slot.TheVariants as slots
 use Rattle.mol_table.specs.declared.entity.NewEntity.{NewEntity}
-use Rattle.mol_table.specs.declared.kind.Kind.{Kind}
-use Rattle.mol_table.specs.declared.kind.Kind.TheVariants as kinds
-use Rattle.mol_table.specs.declared.known.Known.{Known}
-use Rattle.mol_table.specs.declared.known.Known.TheVariants as knowns
-use Rattle.mol_table.specs.declared.param.Param.{Param}
-use Rattle.mol_table.specs.declared.value.Value.{Value}
-use Rattle.mol_table.specs.declared.value.Value.TheVariants as values
+use Rattle.mol_values.specs.declared.kind.Kind.{Kind}
+use Rattle.mol_values.specs.declared.kind.Kind.TheVariants as kinds
+use Rattle.mol_values.specs.declared.known.Known.{Known}
+use Rattle.mol_values.specs.declared.known.Known.TheVariants as knowns
+use Rattle.mol_values.specs.declared.param.Param.{Param}
+use Rattle.mol_values.specs.declared.value.Value.{Value}
+use Rattle.mol_values.specs.declared.value.Value.TheVariants as values
 use Rattle.mol_table.proofs.Counts.{tied, part, count-insert, count-change}
 
 pub same_id-own : (id : Id) → same_id id id ≡ true

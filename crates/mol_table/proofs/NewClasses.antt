@@ -1,5 +1,5 @@
 -- Classes that may be added to a program.
-use Rattle.std.proofs.Common.{true≢false, ◌≡◌, ◌≢◌, ◌⊎◌, inl, inr, ◌==◌, ℕ, ◌+◌, refl, sym, ap, subst, ◌∙◌, arith, Bool, true, false, cond, ◌&&◌, ◌||◌, List, [], ◌∷◌, map, Option, None, Some, is_some, IsTrue}
+use Rattle.std.proofs.Common.{true≢false, ◌≡◌, ◌≢◌, ◌⊎◌, inl, inr, ◌==◌, ℕ, refl, sym, ap, subst, ◌∙◌, arith, Bool, true, false, cond, ◌&&◌, ◌||◌, List, [], ◌∷◌, map, Option, None, Some, is_some, IsTrue}
 use Rattle.std.specs.List.{All, AllPairs, AllByRecursion, list_all, list_any}
 use Rattle.std.specs.Ordering.{eq_by_cmp, is_eq, nat_cmp, ordering_then}
 use Rattle.std.specs.declared.cmp.Ordering.{Ordering}
@@ -14,23 +14,22 @@ use Rattle.mol_base.specs.declared.ident.Id.{Id}
 use Rattle.mol_table.specs.Forms.{has_form}
 use Rattle.mol_table.specs.Maps.{AreApart}
 use Rattle.mol_table.specs.Mentions.{Role, Mention, a_class, a_field, a_method, a_called_method, a_static_method, a_constructor, a_param, a_listed_param, mentions}
-use Rattle.mol_table.specs.Order.{cell_cmp, slot_number}
+use Rattle.mol_values.specs.Order.{cell_cmp, slot_number}
 use Rattle.mol_table.proofs.CellOrder.{cell_cmp-total, cell_cmp-IsAntisymmetric}
 use Rattle.mol_table.specs.Program.{Program, same_id, cell, value_at}
-use Rattle.mol_table.specs.Rules.{IsProgram, fills, has_many, is_declared, refers_rightly}
-use Rattle.mol_table.specs.Slots.{has_slot, slot_of, same_slot}
+use Rattle.mol_table.specs.Rules.{IsProgram, fills, is_declared, refers_rightly}
+use Rattle.mol_values.specs.Slots.{has_slot, slot_of, same_slot}
 use Rattle.mol_table.specs.TokenForms.{is_name, is_dotted}
 use Rattle.mol_table.specs.Writes.{AreOfKind, AreNew, with_entity, with_entities}
-use Rattle.mol_table.specs.declared.cell.Cell.{Cell}
-use Rattle.mol_table.specs.declared.cell.Slot.{Slot}
-use Rattle.mol_table.specs.declared.cell.Slot.TheVariants as slots
+use Rattle.mol_values.specs.declared.cell.Cell.{Cell}
+use Rattle.mol_values.specs.declared.cell.Slot.{Slot}
+use Rattle.mol_values.specs.declared.cell.Slot.TheVariants as slots
 use Rattle.mol_table.specs.declared.entity.NewEntity.{NewEntity}
-use Rattle.mol_table.specs.declared.kind.Kind.TheVariants as kinds
-use Rattle.mol_table.specs.declared.kind.MethodKind.{MethodKind}
-use Rattle.mol_table.specs.declared.known.Known.{Known}
-use Rattle.mol_table.specs.declared.known.Known.TheVariants as knowns
-use Rattle.mol_table.specs.declared.value.Value.{Value}
-use Rattle.mol_table.specs.declared.value.Value.TheVariants as values
+use Rattle.mol_values.specs.declared.kind.Kind.TheVariants as kinds
+use Rattle.mol_values.specs.declared.known.Known.{Known}
+use Rattle.mol_values.specs.declared.known.Known.TheVariants as knowns
+use Rattle.mol_values.specs.declared.value.Value.{Value}
+use Rattle.mol_values.specs.declared.value.Value.TheVariants as values
 use Rattle.mol_table.proofs.Counts.{none-some, tied}
 use Rattle.mol_table.proofs.Living.{id_tied}
 

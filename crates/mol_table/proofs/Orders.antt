@@ -21,12 +21,13 @@ use Rattle.mol_table.specs.Counting.{passing}
 use Rattle.mol_table.specs.Life.{lives_as, lives}
 use Rattle.mol_table.specs.Looked.{HasClasses, rank_of}
 use Rattle.mol_table.specs.Maps.{program_in, IsOrdered}
-use Rattle.mol_table.specs.Order.{id_eq}
+use Rattle.mol_values.specs.Order.{id_eq}
 use Rattle.mol_table.specs.Program.{Program, same_id}
-use Rattle.mol_table.specs.Renaming.{number_of, AreNames, IsInOrder}
+use Rattle.mol_table.specs.Numbering.{AreNames, IsInOrder}
+use Rattle.mol_values.specs.Renaming.{number_of}
 use Rattle.mol_table.specs.Renumber.{is_living_class, class_before, class_number, rank_as, rank, rank_cmp, comes_before, number, base_id, Rank}
-use Rattle.mol_table.specs.declared.known.Known.{Known}
-use Rattle.mol_table.specs.declared.known.Known.TheVariants as knowns
+use Rattle.mol_values.specs.declared.known.Known.{Known}
+use Rattle.mol_values.specs.declared.known.Known.TheVariants as knowns
 use Rattle.mol_table.specs.declared.maps.Maps.{Maps}
 use Rattle.mol_table.specs.declared.renumber.classes.ClassFile.{ClassFile}
 use Rattle.mol_table.specs.declared.renumber.rank.Rank as found
@@ -34,7 +35,7 @@ use Rattle.mol_table.proofs.Collected.{order-number}
 use Rattle.mol_table.proofs.InOrder.{in-order}
 use Rattle.mol_table.proofs.KnownKeys.{known-keys, class-lives, passing-fewer}
 use Rattle.mol_table.proofs.Programs.{keys-known}
-use Rattle.mol_table.proofs.Ties.{id_ties}
+use Rattle.mol_values.proofs.Ties.{id_ties}
 
 pub key_cmp-total : IsTotalOrder key_cmp
 key_cmp-total = search (comparing, rules) depth 9

@@ -14,14 +14,14 @@ use Rattle.mol_base.specs.Order.{id_cmp, id_cmp-total}
 use Rattle.mol_base.specs.declared.ident.Id.{Id}
 use Rattle.mol_table.specs.Counting.{passing, Counted}
 use Rattle.mol_table.specs.Identities.{IsAscending}
-use Rattle.mol_table.specs.Order.{cell_cmp}
+use Rattle.mol_values.specs.Order.{cell_cmp}
 use Rattle.mol_table.specs.Program.{nothing, same_id, cell}
 use Rattle.mol_table.specs.Rules.{IsProgram}
-use Rattle.mol_table.specs.Slots.{has_slot}
-use Rattle.mol_table.specs.declared.known.Known.{Known}
+use Rattle.mol_values.specs.Slots.{has_slot}
+use Rattle.mol_values.specs.declared.known.Known.{Known}
 use Rattle.mol_table.proofs.Counts.{none-some}
 use Rattle.mol_table.proofs.Living.{id_tied}
-use Rattle.mol_table.proofs.Lookups.{no_length}
+use Rattle.mol_values.proofs.Lookups.{no_length}
 
 -- ---- the program that knows nothing
 

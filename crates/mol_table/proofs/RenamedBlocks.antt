@@ -5,32 +5,32 @@ use Rattle.std.proofs.lemmas.List.{length-map}
 use Rattle.std.specs.List.{list_all, flat_map}
 use Rattle.std.specs.Option.{option_map_or}
 use Rattle.mol_base.specs.declared.ident.Id.{Id}
-use Rattle.mol_table.specs.Blocks.{block_of, branch_of}
+use Rattle.mol_values.specs.Blocks.{block_of, branch_of}
 use Rattle.mol_table.specs.ExpressionForms.{is_value, shape_of, is_initial, is_expression, is_statement, are_arguments}
 use Rattle.mol_table.specs.Mentions as mention
-use Rattle.mol_table.specs.Mentions.{Role, Mention, a_class, a_constructor, named, joined, type_mentions, expr_mentions, exprs_mentions, maybe_mentions, arguments_mentions, let_mentions, start_mentions}
-use Rattle.mol_table.specs.Renamed as rename
-use Rattle.mol_table.specs.Renamed.{rename_type, rename_expr, rename_argument, rename_declarator, rename_let, rename_start, rename_else, rename_node, rename_block, rename_if, rename_statement, rename_body}
+use Rattle.mol_table.specs.Mentions.{Mention, a_constructor, named, joined, type_mentions, expr_mentions, exprs_mentions, maybe_mentions, arguments_mentions, let_mentions, start_mentions}
+use Rattle.mol_values.specs.Renamed as rename
+use Rattle.mol_values.specs.Renamed.{rename_type, rename_expr, rename_argument, rename_declarator, rename_let, rename_start, rename_else, rename_node, rename_block, rename_if, rename_statement, rename_body}
 use Rattle.mol_table.specs.StatementForms as forms
-use Rattle.mol_table.specs.StatementForms.{StatementShape, BlockShape, ordinary, super_first, is_maybe, is_declarator, is_let, is_start, are_formed, has_super, block_shape, is_body}
+use Rattle.mol_table.specs.StatementForms.{StatementShape, BlockShape, ordinary, super_first, is_maybe, is_declarator, is_let, is_start, block_shape, is_body}
 use Rattle.mol_table.specs.TokenForms.{are_comments, is_name}
-use Rattle.mol_table.specs.declared.iblock.IBlock.{IBlock}
-use Rattle.mol_table.specs.declared.iblock.IBody.{IBody}
-use Rattle.mol_table.specs.declared.iblock.IDeclarator.{IDeclarator}
-use Rattle.mol_table.specs.declared.iblock.IElse.{IElse}
-use Rattle.mol_table.specs.declared.iblock.IElse.TheFolds.{fold-roll-IElse, fold-roll-IStmtNode, fold-roll-IBlock, fold-roll-IIf, fold-roll-IStmt, map-IElse, map-IStmtNode, ind-IBlock}
-use Rattle.mol_table.specs.declared.iblock.IElse.TheOpen.{IElse-F, IStmtNode-F}
-use Rattle.mol_table.specs.declared.iblock.IElse.TheVariants as elses
-use Rattle.mol_table.specs.declared.iblock.IElse.TheViews.{roll-IElse, roll-IStmtNode, roll-IBlock, roll-IIf, roll-IStmt}
-use Rattle.mol_table.specs.declared.iblock.IForStart.{IForStart}
-use Rattle.mol_table.specs.declared.iblock.IForStart.TheVariants as starts
-use Rattle.mol_table.specs.declared.iblock.IIf.{IIf}
-use Rattle.mol_table.specs.declared.iblock.ILet.{ILet}
-use Rattle.mol_table.specs.declared.iblock.IStmt.{IStmt}
-use Rattle.mol_table.specs.declared.iblock.IStmtNode.{IStmtNode}
-use Rattle.mol_table.specs.declared.iblock.IStmtNode.TheVariants as nodes
-use Rattle.mol_table.specs.declared.iexpr.Argument.{Argument}
-use Rattle.mol_table.specs.declared.iexpr.IExpr.{IExpr}
+use Rattle.mol_values.specs.declared.iblock.IBlock.{IBlock}
+use Rattle.mol_values.specs.declared.iblock.IBody.{IBody}
+use Rattle.mol_values.specs.declared.iblock.IDeclarator.{IDeclarator}
+use Rattle.mol_values.specs.declared.iblock.IElse.{IElse}
+use Rattle.mol_values.specs.declared.iblock.IElse.TheFolds.{fold-roll-IElse, fold-roll-IStmtNode, fold-roll-IBlock, fold-roll-IIf, fold-roll-IStmt, map-IElse, map-IStmtNode, ind-IBlock}
+use Rattle.mol_values.specs.declared.iblock.IElse.TheOpen.{IElse-F, IStmtNode-F}
+use Rattle.mol_values.specs.declared.iblock.IElse.TheVariants as elses
+use Rattle.mol_values.specs.declared.iblock.IElse.TheViews.{roll-IElse, roll-IStmtNode, roll-IBlock, roll-IIf, roll-IStmt}
+use Rattle.mol_values.specs.declared.iblock.IForStart.{IForStart}
+use Rattle.mol_values.specs.declared.iblock.IForStart.TheVariants as starts
+use Rattle.mol_values.specs.declared.iblock.IIf.{IIf}
+use Rattle.mol_values.specs.declared.iblock.ILet.{ILet}
+use Rattle.mol_values.specs.declared.iblock.IStmt.{IStmt}
+use Rattle.mol_values.specs.declared.iblock.IStmtNode.{IStmtNode}
+use Rattle.mol_values.specs.declared.iblock.IStmtNode.TheVariants as nodes
+use Rattle.mol_values.specs.declared.iexpr.Argument.{Argument}
+use Rattle.mol_values.specs.declared.iexpr.IExpr.{IExpr}
 use Rattle.mol_table.proofs.KeptBlocks.{else_form, node_shape, if_form, statement_shape, Mentioned, else_mentions, node_mentions, block_mentions, if_mentions, statement_mentions}
 use Rattle.mol_table.proofs.RenamedExpressions.{rename_mention, join, type-kept, type-mentions, argument-is, same}
 

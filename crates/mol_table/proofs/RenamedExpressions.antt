@@ -7,22 +7,22 @@ use Rattle.mol_base.specs.declared.ident.Id.{Id}
 use Rattle.mol_table.specs.ExpressionForms as forms
 use Rattle.mol_table.specs.ExpressionForms.{Shape, plain, statement, is_value, is_first_value, are_values, are_arguments, shape_of}
 use Rattle.mol_table.specs.Mentions as mention
-use Rattle.mol_table.specs.Mentions.{Role, Mention, named, joined, expr_mentions}
-use Rattle.mol_table.specs.Renamed as rename
-use Rattle.mol_table.specs.Renamed.{rename_type, rename_expr, rename_argument}
+use Rattle.mol_table.specs.Mentions.{Mention, named, joined, expr_mentions}
+use Rattle.mol_values.specs.Renamed as rename
+use Rattle.mol_values.specs.Renamed.{rename_type, rename_expr, rename_argument}
 use Rattle.mol_table.specs.TypeForms as types_of
-use Rattle.mol_table.specs.TypeForms.{is_type, is_array, is_void, is_result, is_class, is_outside_class, dimensions}
-use Rattle.mol_table.specs.declared.iexpr.Argument.{Argument, fold-Argument}
-use Rattle.mol_table.specs.declared.iexpr.IExpr.{IExpr}
-use Rattle.mol_table.specs.declared.iexpr.IExpr.TheOpen.{IExpr-F}
-use Rattle.mol_table.specs.declared.iexpr.IExpr.TheFolds.{fold-roll-IExpr, fold-roll-Argument, ind-IExpr, map-IExpr}
-use Rattle.mol_table.specs.declared.iexpr.IExpr.TheVariants as exprs
-use Rattle.mol_table.specs.declared.iexpr.IExpr.TheViews.{roll-IExpr, roll-Argument}
-use Rattle.mol_table.specs.declared.itype.IType.{IType, fold-IType}
-use Rattle.mol_table.specs.declared.itype.IType.TheOpen.{IType-F}
-use Rattle.mol_table.specs.declared.itype.IType.TheFolds.{fold-roll-IType, ind-IType, map-IType}
-use Rattle.mol_table.specs.declared.itype.IType.TheVariants as types
-use Rattle.mol_table.specs.declared.itype.IType.TheViews.{roll-IType}
+use Rattle.mol_table.specs.TypeForms.{is_type, is_array, is_void, is_result, is_class, is_outside_class}
+use Rattle.mol_values.specs.declared.iexpr.Argument.{Argument, fold-Argument}
+use Rattle.mol_values.specs.declared.iexpr.IExpr.{IExpr}
+use Rattle.mol_values.specs.declared.iexpr.IExpr.TheOpen.{IExpr-F}
+use Rattle.mol_values.specs.declared.iexpr.IExpr.TheFolds.{fold-roll-IExpr, fold-roll-Argument, ind-IExpr, map-IExpr}
+use Rattle.mol_values.specs.declared.iexpr.IExpr.TheVariants as exprs
+use Rattle.mol_values.specs.declared.iexpr.IExpr.TheViews.{roll-IExpr, roll-Argument}
+use Rattle.mol_values.specs.declared.itype.IType.{IType, fold-IType}
+use Rattle.mol_values.specs.declared.itype.IType.TheOpen.{IType-F}
+use Rattle.mol_values.specs.declared.itype.IType.TheFolds.{fold-roll-IType, ind-IType, map-IType}
+use Rattle.mol_values.specs.declared.itype.IType.TheVariants as types
+use Rattle.mol_values.specs.declared.itype.IType.TheViews.{roll-IType}
 
 -- a mention of the new identity
 abbrev pub rename_mention : (Id → Id) → Mention → Mention

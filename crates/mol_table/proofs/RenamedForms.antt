@@ -8,16 +8,16 @@ use Rattle.mol_table.specs.Forms.{is_param, differ, are_params, is_formed}
 use Rattle.mol_table.specs.Life.{lives}
 use Rattle.mol_table.specs.Mentions.{Mention, a_listed_param, named, type_mentions, maybe_mentions, param_mentions, mentions, parent_mentions}
 use Rattle.mol_table.specs.Program.{Program, same_id, params_in}
-use Rattle.mol_table.specs.Renamed.{rename_type, rename_expr, rename_param, rename_value, rename_known}
+use Rattle.mol_values.specs.Renamed.{rename_type, rename_expr, rename_param, rename_value, rename_known}
 use Rattle.mol_table.specs.Renumber.{numbered, renumber}
 use Rattle.mol_table.specs.TokenForms.{is_name, is_filler}
-use Rattle.mol_table.specs.declared.itype.IType.{IType}
-use Rattle.mol_table.specs.declared.kind.MethodKind.TheVariants.{Instance, Static, Constructor}
-use Rattle.mol_table.specs.declared.known.Known.{Known}
-use Rattle.mol_table.specs.declared.known.Known.TheVariants as knowns
-use Rattle.mol_table.specs.declared.param.Param.{Param}
-use Rattle.mol_table.specs.declared.value.Value.{Value}
-use Rattle.mol_table.specs.declared.value.Value.TheVariants as values
+use Rattle.mol_values.specs.declared.itype.IType.{IType}
+use Rattle.mol_values.specs.declared.kind.MethodKind.TheVariants.{Instance, Static, Constructor}
+use Rattle.mol_values.specs.declared.known.Known.{Known}
+use Rattle.mol_values.specs.declared.known.Known.TheVariants as knowns
+use Rattle.mol_values.specs.declared.param.Param.{Param}
+use Rattle.mol_values.specs.declared.value.Value.{Value}
+use Rattle.mol_values.specs.declared.value.Value.TheVariants as values
 use Rattle.mol_table.proofs.Living.{id_tied, same_id-own}
 use Rattle.mol_table.proofs.RenamedExpressions.{rename_mention, join, type-kept, void-kept, result-kept, type-mentions}
 use Rattle.mol_table.proofs.RenamedBlocks.{maybe-initial, maybe-mentioned, body-kept, body-mentioned}
@@ -39,9 +39,9 @@ module _ (program : Program) (apart : (a b : Id) → lives program a ≡ true �
   LiveIds ids = list_all (lives program) ids ≡ true
 
   pub same-kept : (a b : Id) → lives program a ≡ true → lives program b ≡ true → same_id (g a) (g b) ≡ same_id a b
-  same-kept a b one other = at (same_id a b) refl where
+  same-kept a b a-lives b-lives = at (same_id a b) refl where
     apart-new : same_id a b ≡ false → (c : Bool) → same_id (g a) (g b) ≡ c → same_id (g a) (g b) ≡ false
-    apart-new e true same = absurd (true≢false (sym (same_id-own a) ∙ ap (same_id a) (apart a b one other (id_tied (g a) (g b) same)) ∙ e))
+    apart-new e true same = absurd (true≢false (sym (same_id-own a) ∙ ap (same_id a) (apart a b a-lives b-lives (id_tied (g a) (g b) same)) ∙ e))
     apart-new e false same = same
 
     at : (c : Bool) → same_id a b ≡ c → same_id (g a) (g b) ≡ same_id a b

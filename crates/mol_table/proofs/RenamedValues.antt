@@ -10,23 +10,23 @@ use Rattle.mol_table.specs.Life.{lives_as, lives}
 use Rattle.mol_table.specs.Mentions.{Role, a_class, a_field, a_method, a_called_method, a_static_method, a_constructor, a_param, a_listed_param}
 use Rattle.mol_table.proofs.CellOrder.{cell_cmp-total, cell_cmp-IsAntisymmetric}
 use Rattle.mol_table.specs.Program.{Program, cell, is_yes, value_at}
-use Rattle.mol_table.specs.Renamed.{rename_type, rename_body, rename_value, rename_known}
+use Rattle.mol_values.specs.Renamed.{rename_type, rename_body, rename_value, rename_known}
 use Rattle.mol_table.specs.Renumber.{numbered, renumber}
 use Rattle.mol_table.specs.Rules.{fills, is_declared}
-use Rattle.mol_table.specs.Slots.{slot_of, has_slot}
+use Rattle.mol_values.specs.Slots.{slot_of, has_slot}
 use Rattle.mol_table.specs.TypeForms.{is_class}
 use Rattle.mol_table.specs.Words.{is_declaration}
-use Rattle.mol_table.specs.declared.cell.Cell.{Cell}
-use Rattle.mol_table.specs.declared.cell.Slot.{Slot}
-use Rattle.mol_table.specs.declared.iblock.IBody.{IBody}
-use Rattle.mol_table.specs.declared.itype.IType.{IType}
-use Rattle.mol_table.specs.declared.kind.MethodKind.{MethodKind}
-use Rattle.mol_table.specs.declared.kind.MethodKind.TheVariants.{Instance, Static, Constructor}
-use Rattle.mol_table.specs.declared.known.Known.{Known}
-use Rattle.mol_table.specs.declared.known.Known.TheVariants as knowns
-use Rattle.mol_table.specs.declared.value.Value.{Value}
-use Rattle.mol_table.specs.declared.value.Value.TheVariants as values
-use Rattle.mol_table.specs.declared.words.Words.{Words}
+use Rattle.mol_values.specs.declared.cell.Cell.{Cell}
+use Rattle.mol_values.specs.declared.cell.Slot.{Slot}
+use Rattle.mol_values.specs.declared.iblock.IBody.{IBody}
+use Rattle.mol_values.specs.declared.itype.IType.{IType}
+use Rattle.mol_values.specs.declared.kind.MethodKind.{MethodKind}
+use Rattle.mol_values.specs.declared.kind.MethodKind.TheVariants.{Instance, Static, Constructor}
+use Rattle.mol_values.specs.declared.known.Known.{Known}
+use Rattle.mol_values.specs.declared.known.Known.TheVariants as knowns
+use Rattle.mol_values.specs.declared.value.Value.{Value}
+use Rattle.mol_values.specs.declared.value.Value.TheVariants as values
+use Rattle.mol_values.specs.declared.words.Words.{Words}
 use Rattle.mol_table.proofs.Counts.{none-some, some-same}
 use Rattle.mol_table.proofs.RenamedExpressions.{class-kept}
 use Rattle.mol_table.proofs.RenamedMaps.{IsRenamed, renamed-entries}
@@ -74,8 +74,8 @@ module _ (program : Program) (apart : (a b : Id) → lives program a ≡ true �
   new_cell at = cell (g at.id) at.slot
 
   pub cells-apart : (a b : Cell) → cell_lives a ≡ true → cell_lives b ≡ true → new_cell a ≡ new_cell b → a ≡ b
-  cells-apart a b one other e =
-      let id = apart a.id b.id one other (ap (λ (c : Cell). c.id) e) in
+  cells-apart a b a-lives b-lives e =
+      let id = apart a.id b.id a-lives b-lives (ap (λ (c : Cell). c.id) e) in
       let slot = ap (λ (c : Cell). c.slot) e in
       λ i. record { id = id i; slot = slot i }
 

@@ -14,20 +14,20 @@ use Rattle.mol_table.specs.Forms.{has_form}
 use Rattle.mol_table.specs.Life.{is_decl_of, is_living_decl, lives_method, lists, lives_as, lives, entity_in, is_living_entity}
 use Rattle.mol_table.specs.Mentions.{Role, Mention, a_class, a_field, a_method, a_called_method, a_static_method, a_constructor, a_param, a_listed_param, type_mentions, mentions}
 use Rattle.mol_table.specs.Program.{Program, same_id, cell, is_yes, living_at, value_at}
-use Rattle.mol_table.specs.Renamed.{rename_value, rename_known}
+use Rattle.mol_values.specs.Renamed.{rename_value, rename_known}
 use Rattle.mol_table.specs.Renumber.{numbered, renumber}
 use Rattle.mol_table.specs.Looked.{renumbered_counts}
 use Rattle.mol_table.specs.Rules.{IsProgram, fills, refers_rightly, is_declared}
-use Rattle.mol_table.specs.Slots.{same_slot, has_slot}
+use Rattle.mol_values.specs.Slots.{same_slot, has_slot}
 use Rattle.mol_table.specs.Tidy.{tidied, tidy}
-use Rattle.mol_table.specs.declared.cell.Cell.{Cell}
-use Rattle.mol_table.specs.declared.cell.Slot.{Slot}
-use Rattle.mol_table.specs.declared.cell.Slot.TheVariants as slots
-use Rattle.mol_table.specs.declared.known.Known.{Known}
-use Rattle.mol_table.specs.declared.known.Known.TheVariants as knowns
-use Rattle.mol_table.specs.declared.param.Param.{Param}
-use Rattle.mol_table.specs.declared.value.Value.{Value}
-use Rattle.mol_table.specs.declared.value.Value.TheVariants as values
+use Rattle.mol_values.specs.declared.cell.Cell.{Cell}
+use Rattle.mol_values.specs.declared.cell.Slot.{Slot}
+use Rattle.mol_values.specs.declared.cell.Slot.TheVariants as slots
+use Rattle.mol_values.specs.declared.known.Known.{Known}
+use Rattle.mol_values.specs.declared.known.Known.TheVariants as knowns
+use Rattle.mol_values.specs.declared.param.Param.{Param}
+use Rattle.mol_values.specs.declared.value.Value.{Value}
+use Rattle.mol_values.specs.declared.value.Value.TheVariants as values
 use Rattle.mol_table.proofs.Counts.{none-some, some-same, count-same}
 use Rattle.mol_table.proofs.Living.{id_tied, same_id-own}
 use Rattle.mol_table.proofs.RenamedExpressions.{rename_mention}

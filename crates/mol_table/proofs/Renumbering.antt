@@ -9,15 +9,15 @@ use Rattle.mol_base.specs.declared.ident.Id.{Id}
 use Rattle.mol_table.specs.Counting.{Counts}
 use Rattle.mol_table.specs.Life.{lives}
 use Rattle.mol_table.specs.Looked.{HasNames, HasLiving, renumbered_counts}
-use Rattle.mol_table.specs.Order.{cell_cmp}
+use Rattle.mol_values.specs.Order.{cell_cmp}
 use Rattle.mol_table.proofs.CellOrder.{cell_cmp-total, cell_cmp-IsAntisymmetric}
 use Rattle.mol_table.specs.Program.{Program, Cells, Knowns, same_id, cell}
-use Rattle.mol_table.specs.Renamed.{rename_value, rename_known}
-use Rattle.mol_table.specs.Renaming.{names_of, name_in}
+use Rattle.mol_values.specs.Renamed.{rename_value, rename_known}
+use Rattle.mol_values.specs.Renaming.{names_of, name_in}
 use Rattle.mol_table.specs.Renumber.{base_id, number, numbered, renumber}
-use Rattle.mol_table.specs.declared.cell.Cell.{Cell}
-use Rattle.mol_table.specs.declared.known.Known.{Known}
-use Rattle.mol_table.specs.declared.value.Value.{Value}
+use Rattle.mol_values.specs.declared.cell.Cell.{Cell}
+use Rattle.mol_values.specs.declared.known.Known.{Known}
+use Rattle.mol_values.specs.declared.value.Value.{Value}
 use Rattle.mol_table.proofs.Counts.{none-some, some-same}
 use Rattle.mol_table.proofs.RenamedMaps.{IsTaken, renamed-same, renamed-entries, taken-none, taken-more, taken-dead, taken-absent, taken-all}
 use Rattle.mol_table.proofs.RenamedValues.{cells-apart, cells-renamed, known-renamed}

@@ -1,5 +1,5 @@
 -- Values and programs that break the rules of programs.
-use Rattle.std.specs.Prelude.{◌≡◌, ℕ, Bool, true, false, List, [], ◌∷◌, codes, Option, None, Some, is_some}
+use Rattle.std.specs.Prelude.{◌≡◌, ℕ, true, false, [], ◌∷◌, codes, None, Some, is_some}
 use Rattle.std.proofs.Common.{refl, sym, ap, ◌∙◌, arith, true≢false}
 use Rattle.std.specs.FinMap.{empty, get, insert, get-empty, get-insert}
 use Rattle.std.specs.Str.{is_utf8, chars}
@@ -8,21 +8,19 @@ use Rattle.mol_base.specs.Lexical.Names.{starts_name}
 use Rattle.mol_base.specs.Lexical.Front.{front, is_clean, token_kind}
 use Rattle.mol_base.specs.Lexical.Numbers.{number, is_float, is_integer, is_digits}
 use Rattle.mol_base.specs.Lexical.Symbols.{symbol}
-use Rattle.mol_base.specs.Order.{id_cmp, id_cmp-total}
+use Rattle.mol_base.specs.Order.{id_cmp-total}
 use Rattle.mol_base.specs.declared.ident.Id.{Id}
-use Rattle.mol_table.specs.Forms.{has_form, is_formed, is_param}
+use Rattle.mol_table.specs.Forms.{has_form, is_formed}
 use Rattle.mol_table.specs.Mentions.{a_class, a_field, a_method, a_called_method, a_static_method, a_constructor, a_listed_param}
-use Rattle.mol_table.specs.Order.{cell_cmp}
+use Rattle.mol_values.specs.Order.{cell_cmp}
 use Rattle.mol_table.specs.Program.{Program, cell}
 use Rattle.mol_table.specs.Rules.{IsProgram, fills, is_declared}
-use Rattle.mol_table.specs.Slots.{has_slot}
+use Rattle.mol_values.specs.Slots.{has_slot}
 use Rattle.mol_table.specs.Words.{is_declaration}
-use Rattle.mol_table.specs.declared.cell.Slot.TheVariants as slots
-use Rattle.mol_table.specs.declared.itype.IType.TheVariants as types
-use Rattle.mol_table.specs.declared.known.Known.{Known}
-use Rattle.mol_table.specs.declared.known.Known.TheVariants as knowns
-use Rattle.mol_table.specs.declared.kind.MethodKind.TheVariants.{Instance, Static, Constructor}
-use Rattle.mol_table.specs.declared.value.Value.TheVariants as values
+use Rattle.mol_values.specs.declared.cell.Slot.TheVariants as slots
+use Rattle.mol_values.specs.declared.known.Known.TheVariants as knowns
+use Rattle.mol_values.specs.declared.kind.MethodKind.TheVariants.{Instance, Static, Constructor}
+use Rattle.mol_values.specs.declared.value.Value.TheVariants as values
 
 abbrev base : ℕ → Id
 base n = record { tag = []; num = n }

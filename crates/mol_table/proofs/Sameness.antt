@@ -7,7 +7,7 @@ use Rattle.mol_base.specs.declared.ident.Id.{Id}
 use Rattle.mol_table.proofs.CellOrder.{cell_cmp-total, cell_cmp-IsAntisymmetric}
 use Rattle.mol_table.specs.Program.{Program}
 use Rattle.mol_table.specs.Sameness.{Same, IsSameness}
-use Rattle.mol_table.specs.declared.cell.Cell.{Cell}
+use Rattle.mol_values.specs.declared.cell.Cell.{Cell}
 
 pub same_program : (first second : Program) → ((at : Cell) → get first.cells at ≡ get second.cells at)
     → ((id : Id) → get first.known id ≡ get second.known id) → first ≡ second

@@ -3,14 +3,14 @@ use Rattle.std.specs.Prelude.{◌≡◌, ℕ, List, [], ◌∷◌, map, codes, O
 use Rattle.std.proofs.Common.{refl, sym, ap, ◌∙◌}
 use Rattle.mol_base.specs.declared.ident.Id.{Id}
 use Rattle.mol_table.specs.Tidy.{tidy_expr, tidy_argument, expr_step, argument_step, arguments_for}
-use Rattle.mol_table.specs.declared.iexpr.Argument.{Argument}
-use Rattle.mol_table.specs.declared.iexpr.IExpr.{IExpr}
-use Rattle.mol_table.specs.declared.iexpr.IExpr.TheFolds.{fold-roll-IExpr, map-IExpr}
-use Rattle.mol_table.specs.declared.iexpr.IExpr.TheOpen.{IExpr-F}
-use Rattle.mol_table.specs.declared.iexpr.IExpr.TheVariants as exprs
-use Rattle.mol_table.specs.declared.iexpr.IExpr.TheViews.{roll-IExpr}
-use Rattle.mol_table.specs.declared.itype.IType.TheVariants as types
-use Rattle.mol_table.specs.declared.param.Param.{Param}
+use Rattle.mol_values.specs.declared.iexpr.Argument.{Argument}
+use Rattle.mol_values.specs.declared.iexpr.IExpr.{IExpr}
+use Rattle.mol_values.specs.declared.iexpr.IExpr.TheFolds.{fold-roll-IExpr, map-IExpr}
+use Rattle.mol_values.specs.declared.iexpr.IExpr.TheOpen.{IExpr-F}
+use Rattle.mol_values.specs.declared.iexpr.IExpr.TheVariants as exprs
+use Rattle.mol_values.specs.declared.iexpr.IExpr.TheViews.{roll-IExpr}
+use Rattle.mol_values.specs.declared.itype.IType.TheVariants as types
+use Rattle.mol_values.specs.declared.param.Param.{Param}
 use Rattle.mol_table.proofs.Tidied.{argument_is, tidied-NewDefault}
 
 abbrev base : ℕ → Id

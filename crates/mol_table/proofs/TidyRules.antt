@@ -18,30 +18,30 @@ use Rattle.mol_table.proofs.CellOrder.{cell_cmp-total}
 use Rattle.mol_table.specs.Maps.{program_in}
 use Rattle.mol_table.specs.Program.{Program, Cells, Knowns, is_yes, living_at, params_in, params_at, value_at, cell}
 use Rattle.mol_table.specs.Rules.{IsProgram, fills, refers_rightly, is_declared}
-use Rattle.mol_table.specs.Slots.{slot_of, same_slot}
+use Rattle.mol_values.specs.Slots.{slot_of, same_slot}
 use Rattle.mol_table.specs.StatementForms.{is_body}
 use Rattle.mol_table.specs.Tidy.{tidy_body, tidy_expr, tidy_value, is_constructor, is_bare, bare_constructor, tidied, tidy}
 use Rattle.mol_table.specs.Tidying.{bare_in, entry_by}
 use Rattle.mol_table.specs.TokenForms.{is_filler}
-use Rattle.mol_table.specs.declared.cell.Cell.{Cell}
-use Rattle.mol_table.specs.declared.cell.Slot.{Slot}
-use Rattle.mol_table.specs.declared.cell.Slot.TheVariants as slots
-use Rattle.mol_table.specs.declared.iblock.IBody.{IBody}
-use Rattle.mol_table.specs.declared.kind.MethodKind.{MethodKind}
-use Rattle.mol_table.specs.declared.kind.MethodKind.TheVariants.{Instance, Static, Constructor}
-use Rattle.mol_table.specs.declared.known.Known.{Known}
-use Rattle.mol_table.specs.declared.known.Known.TheVariants as knowns
+use Rattle.mol_values.specs.declared.cell.Cell.{Cell}
+use Rattle.mol_values.specs.declared.cell.Slot.{Slot}
+use Rattle.mol_values.specs.declared.cell.Slot.TheVariants as slots
+use Rattle.mol_values.specs.declared.iblock.IBody.{IBody}
+use Rattle.mol_values.specs.declared.kind.MethodKind.{MethodKind}
+use Rattle.mol_values.specs.declared.kind.MethodKind.TheVariants.{Instance, Static, Constructor}
+use Rattle.mol_values.specs.declared.known.Known.{Known}
+use Rattle.mol_values.specs.declared.known.Known.TheVariants as knowns
 use Rattle.mol_table.specs.declared.maps.Maps.{Maps}
-use Rattle.mol_table.specs.declared.param.Param.{Param}
-use Rattle.mol_table.specs.declared.value.Value.{Value}
-use Rattle.mol_table.specs.declared.value.Value.TheVariants as values
+use Rattle.mol_values.specs.declared.param.Param.{Param}
+use Rattle.mol_values.specs.declared.value.Value.{Value}
+use Rattle.mol_values.specs.declared.value.Value.TheVariants as values
 use Rattle.mol_table.specs.Words.{is_declaration}
-use Rattle.mol_table.specs.declared.words.Words.{Words}
+use Rattle.mol_values.specs.declared.words.Words.{Words}
 use Rattle.mol_table.proofs.Changing.{owner-known}
 use Rattle.mol_table.proofs.Counts.{none-some, some-same, count-same}
 use Rattle.mol_table.proofs.Kept.{and-imp, all-imp, are_fillers}
 use Rattle.mol_table.proofs.KeptBlocks.{maybe-initial, maybe-mentioned, body-kept, body-mentioned}
-use Rattle.mol_table.proofs.Lookups.{not_absent}
+use Rattle.mol_values.proofs.Lookups.{not_absent}
 
 -- ---- maps with each value changed
 

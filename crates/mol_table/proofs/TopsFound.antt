@@ -23,8 +23,8 @@ use Rattle.mol_table.specs.Maps.{program_in}
 use Rattle.mol_table.specs.Program.{Program, same_id, living_at, owner_at, parent_at}
 use Rattle.mol_table.specs.Renumber.{topmost}
 use Rattle.mol_table.specs.Tops.{tops_of, top_in, top_cmp, upper, height_in, Ends, top_of, IsDeclared, IsTop, TopIs, AreTops}
-use Rattle.mol_table.specs.declared.known.Known.{Known}
-use Rattle.mol_table.specs.declared.known.Known.TheVariants as knowns
+use Rattle.mol_values.specs.declared.known.Known.{Known}
+use Rattle.mol_values.specs.declared.known.Known.TheVariants as knowns
 use Rattle.mol_table.specs.declared.maps.Maps.{Maps}
 use Rattle.mol_table.specs.declared.renumber.top.Top.{Top}
 use Rattle.mol_table.proofs.Bare.{known-ascend, find-first}
@@ -309,12 +309,12 @@ module _ (maps : Maps) where
       let owned = above-owned (owner_at program decl) (owner_at program decl) (topmost-above method decl decl top living) in
       (owned.0, record { among = all decl ∙ known-among method decl living; declares = living; owned = owned.1 })
 
-  same-owner : (method one other : Id) → is_topmost program method one ≡ true → living_of program other ≡ Some method → owner_at program other ≡ owner_at program one → is_topmost program method other ≡ true
-  same-owner method one other top living owned =
-      let known = living-decl method other (get program.known other) (living_at program other) living in
-      let all = (and-both _ (list_all (is_above_living program method one) (entries program.known)) top).1 in
-      ap (λ o. option_map_or (λ what. is_decl_of method what && living_at program other) o false && list_all (is_above_living program method other) (entries program.known)) known.1
-      ∙ ap (λ b. b && list_all (is_above_living program method other) (entries program.known)) known.2
+  same-owner : (method top decl : Id) → is_topmost program method top ≡ true → living_of program decl ≡ Some method → owner_at program decl ≡ owner_at program top → is_topmost program method decl ≡ true
+  same-owner method top decl is-top living owned =
+      let known = living-decl method decl (get program.known decl) (living_at program decl) living in
+      let all = (and-both _ (list_all (is_above_living program method top) (entries program.known)) is-top).1 in
+      ap (λ o. option_map_or (λ what. is_decl_of method what && living_at program decl) o false && list_all (is_above_living program method decl) (entries program.known)) known.1
+      ∙ ap (λ b. b && list_all (is_above_living program method decl) (entries program.known)) known.2
       ∙ ap (λ (o : Option Id). list_all (λ (below : Id × Known). not (is_living_decl program method below) || is_above program (owner_at program below.0) o) (entries program.known)) owned
       ∙ all
 
@@ -359,11 +359,11 @@ module _ (maps : Maps) where
             at false same h rest = or-right (p e) (list_any p es) (rest h)
 
       both-same : (top t : Id) → is_lt (id_cmp t top) ≡ false → is_lt (id_cmp top t) ≡ false → top ≡ t
-      both-same top t one other = id_cmp-IsAntisymmetric top t (at (id_cmp top t) refl) where
+      both-same top t not-before not-after = id_cmp-IsAntisymmetric top t (at (id_cmp top t) refl) where
         at : (o : Ordering) → id_cmp top t ≡ o → id_cmp top t ≡ Equal
-        at Less e = absurd (true≢false (ap is_lt (sym e) ∙ other))
+        at Less e = absurd (true≢false (ap is_lt (sym e) ∙ not-after))
         at Equal e = e
-        at Greater e = absurd (true≢false (sym (ap is_lt (id_cmp-total.antisymm t top ∙ ap ordering_reverse e)) ∙ one))
+        at Greater e = absurd (true≢false (sym (ap is_lt (id_cmp-total.antisymm t top ∙ ap ordering_reverse e)) ∙ not-before))
 
       by : (o : Option Top) → TopIs maps decls method o → (t : Option Id) → topmost program method ≡ t → option_map (λ (top : Top). top.decl) o ≡ topmost program method
       by None none None is = sym is

@@ -16,11 +16,11 @@ use Rattle.mol_table.specs.Faults.{is_above, is_above_living, is_topmost}
 use Rattle.mol_table.specs.Heights.{upward}
 use Rattle.mol_table.specs.Life.{is_decl_of, is_living_decl}
 use Rattle.mol_table.specs.Maps.{program_in, IsOrdered}
-use Rattle.mol_table.specs.Order.{id_eq}
+use Rattle.mol_values.specs.Order.{id_eq}
 use Rattle.mol_table.specs.Program.{Program, same_id, living_at, owner_at}
 use Rattle.mol_table.specs.Renumber.{topmost}
 use Rattle.mol_table.specs.Tops.{tops_of, top_in}
-use Rattle.mol_table.specs.declared.known.Known.{Known}
+use Rattle.mol_values.specs.declared.known.Known.{Known}
 use Rattle.mol_table.specs.declared.maps.Maps.{Maps}
 use Rattle.mol_table.specs.declared.renumber.top.Top.{Top}
 use Rattle.mol_table.proofs.Counts.{none-some, some-same, each_found}

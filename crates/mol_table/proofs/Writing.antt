@@ -6,19 +6,19 @@ use Rattle.std.specs.FinMap.{get, insert, get-insert}
 use Rattle.std.specs.Ordering.{eq_by_cmp}
 use Rattle.mol_base.specs.declared.ident.Id.{Id}
 use Rattle.mol_table.specs.Maps.{AreKnown}
-use Rattle.mol_table.specs.Order.{cell_cmp}
+use Rattle.mol_values.specs.Order.{cell_cmp}
 use Rattle.mol_table.proofs.CellOrder.{cell_cmp-total, cell_cmp-IsAntisymmetric}
 use Rattle.mol_table.specs.Program.{Program, Knowns, Cells, cell}
 use Rattle.mol_table.specs.Rules.{IsProgram}
-use Rattle.mol_table.specs.Slots.{has_slot}
+use Rattle.mol_values.specs.Slots.{has_slot}
 use Rattle.mol_table.specs.Writes.{kept_or, with_params, with_value}
-use Rattle.mol_table.specs.declared.cell.Cell.{Cell}
-use Rattle.mol_table.specs.declared.cell.Slot.TheVariants as slots
-use Rattle.mol_table.specs.declared.kind.MethodKind.{MethodKind}
-use Rattle.mol_table.specs.declared.known.Known.{Known}
-use Rattle.mol_table.specs.declared.known.Known.TheVariants as knowns
-use Rattle.mol_table.specs.declared.param.Param.{Param}
-use Rattle.mol_table.specs.declared.value.Value.{Value}
+use Rattle.mol_values.specs.declared.cell.Cell.{Cell}
+use Rattle.mol_values.specs.declared.cell.Slot.TheVariants as slots
+use Rattle.mol_values.specs.declared.kind.MethodKind.{MethodKind}
+use Rattle.mol_values.specs.declared.known.Known.{Known}
+use Rattle.mol_values.specs.declared.known.Known.TheVariants as knowns
+use Rattle.mol_values.specs.declared.param.Param.{Param}
+use Rattle.mol_values.specs.declared.value.Value.{Value}
 use Rattle.mol_table.proofs.Counts.{tied}
 
 -- a list from a place on begins with the item at that place

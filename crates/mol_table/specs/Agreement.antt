@@ -3,7 +3,7 @@ use Rattle.std.specs.Prelude.{◌≡◌, IsTrue}
 use Rattle.mol_base.specs.declared.ident.Id.{Id}
 use Rattle.mol_table.specs.Life.{is_living_entity}
 use Rattle.mol_table.specs.Program.{Program, value_at}
-use Rattle.mol_table.specs.declared.cell.Slot.{Slot}
+use Rattle.mol_values.specs.declared.cell.Slot.{Slot}
 
 -- two programs agree at a cell
 abbrev pub AgreeAt : Program → Program → Id → Slot → Type 0

@@ -6,9 +6,9 @@ use Rattle.mol_base.specs.Order.{id_cmp}
 use Rattle.mol_base.specs.declared.ident.Id.{Id}
 use Rattle.mol_table.specs.Life.{is_living_decl}
 use Rattle.mol_table.specs.Program.{Program, same_id, living_at}
-use Rattle.mol_table.specs.declared.kind.MethodKind.{MethodKind}
-use Rattle.mol_table.specs.declared.known.Known.{Known}
-use Rattle.mol_table.specs.declared.known.Known.TheVariants as knowns
+use Rattle.mol_values.specs.declared.kind.MethodKind.{MethodKind}
+use Rattle.mol_values.specs.declared.known.Known.{Known}
+use Rattle.mol_values.specs.declared.known.Known.TheVariants as knowns
 
 -- 1 where it is so
 abbrev pub one_if : Bool → ℕ
@@ -66,8 +66,8 @@ placed counts method = insert counts method (number_at counts method)
 
 abbrev pub same_method : Option Id → Option Id → Bool
 same_method None None = true
-same_method (Some one) (Some other) = same_id one other
-same_method one other = false
+same_method (Some first) (Some second) = same_id first second
+same_method first second = false
 
 -- the counts once an identity that was a living declaration of the first method is one of the second
 abbrev pub recounted : Counts → Option Id → Option Id → Counts

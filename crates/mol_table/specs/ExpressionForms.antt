@@ -5,8 +5,8 @@ use Rattle.mol_base.specs.Limits.{max_items}
 use Rattle.mol_base.specs.Operators.{binary_level, is_prefix, is_step, is_assignment}
 use Rattle.mol_table.specs.TokenForms.{is_name, is_dotted, is_literal}
 use Rattle.mol_table.specs.TypeForms.{is_type, is_array, is_outside_class}
-use Rattle.mol_table.specs.declared.iexpr.IExpr.{IExpr, fold-IExpr}
-use Rattle.mol_table.specs.declared.iexpr.IExpr.TheOpen.{IExpr-F, Argument-F}
+use Rattle.mol_values.specs.declared.iexpr.IExpr.{IExpr, fold-IExpr}
+use Rattle.mol_values.specs.declared.iexpr.IExpr.TheOpen.{IExpr-F, Argument-F}
 
 -- an operator between two operands that is no `instanceof`
 abbrev pub is_binary : List ℕ → Bool

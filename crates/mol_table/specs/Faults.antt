@@ -11,11 +11,11 @@ use Rattle.mol_table.specs.Life.{lives, lives_method, lists, is_living_decl, is_
 use Rattle.mol_table.specs.Mentions.{Role, a_param, a_listed_param}
 use Rattle.mol_table.specs.Program.{Program, value_at, package_at, name_at, owner_at, params_at}
 use Rattle.mol_table.specs.Tidy.{references}
-use Rattle.mol_table.specs.declared.cell.Cell.{Cell}
-use Rattle.mol_table.specs.declared.kind.MethodKind.TheVariants.{Constructor}
-use Rattle.mol_table.specs.declared.known.Known.{Known}
-use Rattle.mol_table.specs.declared.known.Known.TheVariants as knowns
-use Rattle.mol_table.specs.declared.value.Value.{Value}
+use Rattle.mol_values.specs.declared.cell.Cell.{Cell}
+use Rattle.mol_values.specs.declared.kind.MethodKind.TheVariants.{Constructor}
+use Rattle.mol_values.specs.declared.known.Known.{Known}
+use Rattle.mol_values.specs.declared.known.Known.TheVariants as knowns
+use Rattle.mol_values.specs.declared.value.Value.{Value}
 
 -- ---- SameAddress
 
@@ -42,13 +42,13 @@ abbrev pub address : Program → Id → Option Address
 address program id = address_as program id (get program.known id)
 
 -- two that live share an address; the smaller identity goes first
-pub record SameAddress (program : Program) (one other : Id) : Type 0 where
-  pub ordered : id_cmp one other ≡ Less
-  pub one_lives : IsTrue (lives program one)
-  pub other_lives : IsTrue (lives program other)
+pub record SameAddress (program : Program) (first second : Id) : Type 0 where
+  pub ordered : id_cmp first second ≡ Less
+  pub first_lives : IsTrue (lives program first)
+  pub second_lives : IsTrue (lives program second)
   pub shared : Address
-  pub one_has : address program one ≡ Some shared
-  pub other_has : address program other ≡ Some shared
+  pub first_has : address program first ≡ Some shared
+  pub second_has : address program second ≡ Some shared
 
 -- ---- Apart
 

@@ -7,18 +7,18 @@ use Rattle.mol_base.specs.Modifiers.{class_words, field_words, kept_words}
 use Rattle.mol_base.specs.declared.ident.Id.{Id}
 use Rattle.mol_table.specs.ExpressionForms.{is_initial}
 use Rattle.mol_table.specs.Program.{same_id}
-use Rattle.mol_table.specs.Slots.{slot_of, same_slot}
+use Rattle.mol_values.specs.Slots.{slot_of, same_slot}
 use Rattle.mol_table.specs.StatementForms.{is_body}
 use Rattle.mol_table.specs.TokenForms.{is_name, is_dotted, is_filler, are_comments, is_empty}
 use Rattle.mol_table.specs.TypeForms.{is_type, is_void, is_result, is_class}
 use Rattle.mol_table.specs.Words.{are_words}
-use Rattle.mol_table.specs.declared.cell.Slot.{Slot}
-use Rattle.mol_table.specs.declared.kind.MethodKind.TheVariants.{Constructor}
-use Rattle.mol_table.specs.declared.known.Known.{Known}
-use Rattle.mol_table.specs.declared.known.Known.TheVariants as knowns
-use Rattle.mol_table.specs.declared.param.Param.{Param}
-use Rattle.mol_table.specs.declared.value.Value.{Value}
-use Rattle.mol_table.specs.declared.value.Value.TheVariants.{Live, Package, Owner, Method, Name, Super, Result, Params, Kind, Fixed, Words, Notes, Body, Value as FieldValue}
+use Rattle.mol_values.specs.declared.cell.Slot.{Slot}
+use Rattle.mol_values.specs.declared.kind.MethodKind.TheVariants.{Constructor}
+use Rattle.mol_values.specs.declared.known.Known.{Known}
+use Rattle.mol_values.specs.declared.known.Known.TheVariants as knowns
+use Rattle.mol_values.specs.declared.param.Param.{Param}
+use Rattle.mol_values.specs.declared.value.Value.{Value}
+use Rattle.mol_values.specs.declared.value.Value.TheVariants.{Live, Package, Owner, Method, Name, Super, Result, Params, Kind, Fixed, Words, Notes, Body, Value as FieldValue}
 
 abbrev pub is_param : Param → Bool
 is_param param = is_name param.name && is_type param.ty && is_filler param.filler

@@ -1,7 +1,6 @@
 pub mod Agreement
 pub mod Ancestors
 pub mod Bare
-pub mod Blocks
 pub mod ClassFiles
 pub mod Counting
 pub mod ExpressionForms
@@ -13,14 +12,11 @@ pub mod Life
 pub mod Looked
 pub mod Maps
 pub mod Mentions
-pub mod Order
+pub mod Numbering
 pub mod Program
-pub mod Renamed
-pub mod Renaming
 pub mod Renumber
 pub mod Rules
 pub mod Sameness
-pub mod Slots
 pub mod StatementForms
 pub mod Tidy
 pub mod Tidying

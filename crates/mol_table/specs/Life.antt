@@ -4,8 +4,8 @@ use Rattle.std.specs.List.{list_any}
 use Rattle.std.specs.FinMap.{get, entries}
 use Rattle.mol_base.specs.declared.ident.Id.{Id}
 use Rattle.mol_table.specs.Program.{Program, same_id, living_at, params_at}
-use Rattle.mol_table.specs.declared.known.Known.{Known}
-use Rattle.mol_table.specs.declared.known.Known.TheVariants as knowns
+use Rattle.mol_values.specs.declared.known.Known.{Known}
+use Rattle.mol_values.specs.declared.known.Known.TheVariants as knowns
 
 -- whether something is known as a declaration of this method
 abbrev pub is_decl_of : Id → Known → Bool

@@ -6,7 +6,7 @@ use Rattle.mol_base.specs.declared.ident.Id.{Id}
 use Rattle.mol_table.specs.Counting.{Counts}
 use Rattle.mol_table.specs.Life.{lives}
 use Rattle.mol_table.specs.Program.{Program, same_id}
-use Rattle.mol_table.specs.Renaming.{names_of, number_in}
+use Rattle.mol_values.specs.Renaming.{names_of, number_in}
 use Rattle.mol_table.specs.Renumber.{Rank, owner_number, topmost, number, base_id, numbered}
 use Rattle.mol_table.specs.Tops.{top_in}
 use Rattle.mol_table.specs.declared.renumber.rank.Rank as found
@@ -27,7 +27,7 @@ rank_of rank = record { part = rank.part; class = rank.class; printed = rank.pri
 -- they have the new identity of all that lives, and no two of these are one
 pub record HasNames (program : Program) (names : List (Id × Id)) : Type 0 where
   pub at : (id : Id) → get (names_of names) id ≡ cond (lives program id) (Some (base_id (number program id))) None
-  pub apart : (one other : Id) → lives program one ≡ true → lives program other ≡ true → numbered program one ≡ numbered program other → one ≡ other
+  pub apart : (first second : Id) → lives program first ≡ true → lives program second ≡ true → numbered program first ≡ numbered program second → first ≡ second
 
 -- the list has all that lives, and nothing else
 abbrev pub HasLiving : Program → List Id → Type 0

@@ -11,13 +11,13 @@ use Rattle.mol_table.specs.Counting.{Counts, Counted}
 use Rattle.mol_table.specs.Life.{entity_in}
 use Rattle.mol_table.specs.Program.{Program, Cells, Knowns}
 use Rattle.mol_table.specs.Rules.{IsProgram}
-use Rattle.mol_table.specs.declared.cell.Cell.{Cell}
+use Rattle.mol_values.specs.declared.cell.Cell.{Cell}
 use Rattle.mol_table.specs.declared.entity.NewEntity.{NewEntity}
-use Rattle.mol_table.specs.declared.known.Known.{Known}
+use Rattle.mol_values.specs.declared.known.Known.{Known}
 use Rattle.mol_table.specs.declared.maps.Maps.{Maps}
-use Rattle.mol_table.specs.declared.param.Param.{Param}
-use Rattle.mol_table.specs.declared.value.Value.{Value}
-use Rattle.mol_table.specs.declared.value.Value.TheVariants as values
+use Rattle.mol_values.specs.declared.param.Param.{Param}
+use Rattle.mol_values.specs.declared.value.Value.{Value}
+use Rattle.mol_values.specs.declared.value.Value.TheVariants as values
 
 abbrev pub program_code : Coded Cell → Coded Value → Coded Id → Coded Known → Coded Program
 program_code cells values ids knowns =

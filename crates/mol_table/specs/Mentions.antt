@@ -3,21 +3,21 @@
 use Rattle.std.specs.Prelude.{List, [], ◌∷◌, ◌++◌, Option, None, Some}
 use Rattle.std.specs.List.{flat_map}
 use Rattle.mol_base.specs.declared.ident.Id.{Id}
-use Rattle.mol_table.specs.declared.iblock.IBlock.{IBlock, fold-IBlock}
-use Rattle.mol_table.specs.declared.iblock.IBody.{IBody}
-use Rattle.mol_table.specs.declared.iblock.IDeclarator.{IDeclarator}
-use Rattle.mol_table.specs.declared.iblock.IElse.TheOpen.{IElse-F, IStmtNode-F, IBlock-F, IIf-F, IStmt-F}
-use Rattle.mol_table.specs.declared.iblock.IForStart.{IForStart}
-use Rattle.mol_table.specs.declared.iblock.IForStart.TheVariants as starts
-use Rattle.mol_table.specs.declared.iblock.ILet.{ILet}
-use Rattle.mol_table.specs.declared.iexpr.Argument.{Argument}
-use Rattle.mol_table.specs.declared.iexpr.IExpr.{IExpr, fold-IExpr}
-use Rattle.mol_table.specs.declared.iexpr.IExpr.TheOpen.{IExpr-F, Argument-F}
-use Rattle.mol_table.specs.declared.itype.IType.{IType, fold-IType}
-use Rattle.mol_table.specs.declared.itype.IType.TheOpen.{IType-F}
-use Rattle.mol_table.specs.declared.param.Param.{Param}
-use Rattle.mol_table.specs.declared.value.Value.{Value}
-use Rattle.mol_table.specs.declared.value.Value.TheVariants as values
+use Rattle.mol_values.specs.declared.iblock.IBlock.{IBlock, fold-IBlock}
+use Rattle.mol_values.specs.declared.iblock.IBody.{IBody}
+use Rattle.mol_values.specs.declared.iblock.IDeclarator.{IDeclarator}
+use Rattle.mol_values.specs.declared.iblock.IElse.TheOpen.{IElse-F, IStmtNode-F, IBlock-F, IIf-F, IStmt-F}
+use Rattle.mol_values.specs.declared.iblock.IForStart.{IForStart}
+use Rattle.mol_values.specs.declared.iblock.IForStart.TheVariants as starts
+use Rattle.mol_values.specs.declared.iblock.ILet.{ILet}
+use Rattle.mol_values.specs.declared.iexpr.Argument.{Argument}
+use Rattle.mol_values.specs.declared.iexpr.IExpr.{IExpr, fold-IExpr}
+use Rattle.mol_values.specs.declared.iexpr.IExpr.TheOpen.{IExpr-F, Argument-F}
+use Rattle.mol_values.specs.declared.itype.IType.{IType, fold-IType}
+use Rattle.mol_values.specs.declared.itype.IType.TheOpen.{IType-F}
+use Rattle.mol_values.specs.declared.param.Param.{Param}
+use Rattle.mol_values.specs.declared.value.Value.{Value}
+use Rattle.mol_values.specs.declared.value.Value.TheVariants as values
 
 -- as what a value names an identity
 pub data Role : Type 0 where

@@ -14,13 +14,13 @@ use Rattle.mol_table.specs.Counting.{passing}
 use Rattle.mol_table.specs.Faults.{is_topmost, Apart, Missing}
 use Rattle.mol_table.specs.Life.{lives}
 use Rattle.mol_table.specs.Program.{Program, same_id, cell, living_at, package_at, name_at, owner_at, params_at}
-use Rattle.mol_table.specs.Renamed.{rename_value, rename_known}
+use Rattle.mol_values.specs.Renamed.{rename_value, rename_known}
 use Rattle.mol_table.specs.Tidy.{tidy}
-use Rattle.mol_table.specs.declared.cell.Cell.{Cell}
-use Rattle.mol_table.specs.declared.known.Known.{Known}
-use Rattle.mol_table.specs.declared.known.Known.TheVariants as knowns
-use Rattle.mol_table.specs.declared.param.Param.{Param}
-use Rattle.mol_table.specs.declared.value.Value.{Value}
+use Rattle.mol_values.specs.declared.cell.Cell.{Cell}
+use Rattle.mol_values.specs.declared.known.Known.{Known}
+use Rattle.mol_values.specs.declared.known.Known.TheVariants as knowns
+use Rattle.mol_values.specs.declared.param.Param.{Param}
+use Rattle.mol_values.specs.declared.value.Value.{Value}
 
 -- ---- the order of classes
 

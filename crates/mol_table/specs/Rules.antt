@@ -6,16 +6,16 @@ use Rattle.mol_base.specs.declared.ident.Id.{Id}
 use Rattle.mol_table.specs.Forms.{has_form}
 use Rattle.mol_table.specs.Mentions.{Role, Mention, a_class, a_field, a_method, a_called_method, a_static_method, a_constructor, a_param, a_listed_param, mentions}
 use Rattle.mol_table.specs.Program.{Program, Knowns, same_id, value_at}
-use Rattle.mol_table.specs.Slots.{has_slot}
+use Rattle.mol_values.specs.Slots.{has_slot}
 use Rattle.mol_table.specs.Words.{is_declaration}
-use Rattle.mol_table.specs.declared.cell.Slot.{Slot}
-use Rattle.mol_table.specs.declared.cell.Slot.TheVariants as slots
-use Rattle.mol_table.specs.declared.kind.MethodKind.{MethodKind}
-use Rattle.mol_table.specs.declared.kind.MethodKind.TheVariants.{Instance, Static, Constructor}
-use Rattle.mol_table.specs.declared.known.Known.{Known}
-use Rattle.mol_table.specs.declared.known.Known.TheVariants as knowns
-use Rattle.mol_table.specs.declared.value.Value.{Value}
-use Rattle.mol_table.specs.declared.value.Value.TheVariants as values
+use Rattle.mol_values.specs.declared.cell.Slot.{Slot}
+use Rattle.mol_values.specs.declared.cell.Slot.TheVariants as slots
+use Rattle.mol_values.specs.declared.kind.MethodKind.{MethodKind}
+use Rattle.mol_values.specs.declared.kind.MethodKind.TheVariants.{Instance, Static, Constructor}
+use Rattle.mol_values.specs.declared.known.Known.{Known}
+use Rattle.mol_values.specs.declared.known.Known.TheVariants as knowns
+use Rattle.mol_values.specs.declared.value.Value.{Value}
+use Rattle.mol_values.specs.declared.value.Value.TheVariants as values
 
 -- What an identity that a value in a cell of `owner` names is known as. A parameter in an expression may be known as
 -- anything, or not at all; a listed one is a parameter of this very method.
@@ -61,8 +61,8 @@ pub record IsProgram (program : Program) : Type 0 where
   pub decls : (id method : Id) → get program.known id ≡ Some (knowns.Decl method) → IsTrue (fills id a_method (get program.known method))
   pub params : (id method : Id) → get program.known id ≡ Some (knowns.Param method) → IsTrue (fills id a_method (get program.known method))
   -- a method that is static or a constructor has at most one declaration
-  pub single : (method one other : Id) (kind : MethodKind) → get program.known method ≡ Some (knowns.Method kind) → has_many kind ≡ false
-      → get program.known one ≡ Some (knowns.Decl method) → get program.known other ≡ Some (knowns.Decl method) → one ≡ other
+  pub single : (method first second : Id) (kind : MethodKind) → get program.known method ≡ Some (knowns.Method kind) → has_many kind ≡ false
+      → get program.known first ≡ Some (knowns.Decl method) → get program.known second ≡ Some (knowns.Decl method) → first ≡ second
   -- the modifiers of a declaration, and whether it has a block, are allowed for the kind of its method
   pub declarations : (id method : Id) (kind : MethodKind) → get program.known id ≡ Some (knowns.Decl method)
       → get program.known method ≡ Some (knowns.Method kind) → IsTrue (is_declared kind (value_at program id slots.Words) (value_at program id slots.Body))

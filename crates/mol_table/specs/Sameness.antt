@@ -3,7 +3,7 @@ use Rattle.std.specs.Prelude.{◌≡◌, IsTrue}
 use Rattle.mol_base.specs.declared.ident.Id.{Id}
 use Rattle.mol_table.specs.Life.{is_living_entity}
 use Rattle.mol_table.specs.Program.{Program, value_at}
-use Rattle.mol_table.specs.declared.cell.Slot.{Slot}
+use Rattle.mol_values.specs.declared.cell.Slot.{Slot}
 
 -- The same entities live in both, and all cells of these agree. What does not live, and which parameters are known, is
 -- not looked at.

@@ -5,15 +5,15 @@ use Rattle.std.specs.Option.{option_map_or}
 use Rattle.mol_table.specs.ExpressionForms.{is_initial, is_expression, is_statement, shape_of, are_arguments}
 use Rattle.mol_table.specs.TokenForms.{is_name, are_comments}
 use Rattle.mol_table.specs.TypeForms.{is_type}
-use Rattle.mol_table.specs.declared.iblock.IBlock.{IBlock, fold-IBlock}
-use Rattle.mol_table.specs.declared.iblock.IBody.{IBody}
-use Rattle.mol_table.specs.declared.iblock.IDeclarator.{IDeclarator}
-use Rattle.mol_table.specs.declared.iblock.IForStart.{IForStart}
-use Rattle.mol_table.specs.declared.iblock.IForStart.TheVariants as starts
-use Rattle.mol_table.specs.declared.iblock.ILet.{ILet}
-use Rattle.mol_table.specs.declared.iblock.IElse.TheOpen.{IElse-F, IStmtNode-F, IBlock-F, IIf-F, IStmt-F}
-use Rattle.mol_table.specs.declared.iexpr.Argument.{Argument}
-use Rattle.mol_table.specs.declared.iexpr.IExpr.{IExpr}
+use Rattle.mol_values.specs.declared.iblock.IBlock.{IBlock, fold-IBlock}
+use Rattle.mol_values.specs.declared.iblock.IBody.{IBody}
+use Rattle.mol_values.specs.declared.iblock.IDeclarator.{IDeclarator}
+use Rattle.mol_values.specs.declared.iblock.IForStart.{IForStart}
+use Rattle.mol_values.specs.declared.iblock.IForStart.TheVariants as starts
+use Rattle.mol_values.specs.declared.iblock.ILet.{ILet}
+use Rattle.mol_values.specs.declared.iblock.IElse.TheOpen.{IElse-F, IStmtNode-F, IBlock-F, IIf-F, IStmt-F}
+use Rattle.mol_values.specs.declared.iexpr.Argument.{Argument}
+use Rattle.mol_values.specs.declared.iexpr.IExpr.{IExpr}
 
 -- what the form of the whole asks of a statement in it
 pub record StatementShape : Type 0 where

@@ -10,31 +10,31 @@ use Rattle.mol_table.specs.Life.{is_decl_of}
 use Rattle.mol_table.specs.Mentions.{Mention, mentions}
 use Rattle.mol_table.specs.Program.{Program, same_id, living_at, owner_at, params_at}
 use Rattle.mol_table.specs.TokenForms.{is_empty}
-use Rattle.mol_table.specs.declared.cell.Cell.{Cell}
-use Rattle.mol_table.specs.Blocks.{block_of, branch_of}
-use Rattle.mol_table.specs.declared.iblock.IBlock.{IBlock, fold-IBlock}
-use Rattle.mol_table.specs.declared.iblock.IBody.{IBody}
-use Rattle.mol_table.specs.declared.iblock.IDeclarator.{IDeclarator}
-use Rattle.mol_table.specs.declared.iblock.IElse.{IElse, fold-IElse}
-use Rattle.mol_table.specs.declared.iblock.IElse.TheOpen.{IElse-F, IStmtNode-F, IBlock-F, IIf-F, IStmt-F}
-use Rattle.mol_table.specs.declared.iblock.IElse.TheVariants as elses
-use Rattle.mol_table.specs.declared.iblock.IForStart.{IForStart}
-use Rattle.mol_table.specs.declared.iblock.IForStart.TheVariants as starts
-use Rattle.mol_table.specs.declared.iblock.IIf.{IIf, fold-IIf}
-use Rattle.mol_table.specs.declared.iblock.ILet.{ILet}
-use Rattle.mol_table.specs.declared.iblock.IStmt.{IStmt, fold-IStmt}
-use Rattle.mol_table.specs.declared.iblock.IStmtNode.{IStmtNode, fold-IStmtNode}
-use Rattle.mol_table.specs.declared.iblock.IStmtNode.TheVariants as nodes
-use Rattle.mol_table.specs.declared.iexpr.Argument.{Argument, fold-Argument}
-use Rattle.mol_table.specs.declared.iexpr.IExpr.{IExpr, fold-IExpr}
-use Rattle.mol_table.specs.declared.iexpr.IExpr.TheOpen.{IExpr-F, Argument-F}
-use Rattle.mol_table.specs.declared.iexpr.IExpr.TheVariants as exprs
-use Rattle.mol_table.specs.declared.known.Known.{Known}
-use Rattle.mol_table.specs.declared.known.Known.TheVariants as knowns
-use Rattle.mol_table.specs.declared.kind.MethodKind.TheVariants.{Constructor}
-use Rattle.mol_table.specs.declared.param.Param.{Param}
-use Rattle.mol_table.specs.declared.value.Value.{Value}
-use Rattle.mol_table.specs.declared.value.Value.TheVariants as values
+use Rattle.mol_values.specs.declared.cell.Cell.{Cell}
+use Rattle.mol_values.specs.Blocks.{block_of, branch_of}
+use Rattle.mol_values.specs.declared.iblock.IBlock.{IBlock, fold-IBlock}
+use Rattle.mol_values.specs.declared.iblock.IBody.{IBody}
+use Rattle.mol_values.specs.declared.iblock.IDeclarator.{IDeclarator}
+use Rattle.mol_values.specs.declared.iblock.IElse.{IElse, fold-IElse}
+use Rattle.mol_values.specs.declared.iblock.IElse.TheOpen.{IElse-F, IStmtNode-F, IBlock-F, IIf-F, IStmt-F}
+use Rattle.mol_values.specs.declared.iblock.IElse.TheVariants as elses
+use Rattle.mol_values.specs.declared.iblock.IForStart.{IForStart}
+use Rattle.mol_values.specs.declared.iblock.IForStart.TheVariants as starts
+use Rattle.mol_values.specs.declared.iblock.IIf.{IIf, fold-IIf}
+use Rattle.mol_values.specs.declared.iblock.ILet.{ILet}
+use Rattle.mol_values.specs.declared.iblock.IStmt.{IStmt, fold-IStmt}
+use Rattle.mol_values.specs.declared.iblock.IStmtNode.{IStmtNode, fold-IStmtNode}
+use Rattle.mol_values.specs.declared.iblock.IStmtNode.TheVariants as nodes
+use Rattle.mol_values.specs.declared.iexpr.Argument.{Argument, fold-Argument}
+use Rattle.mol_values.specs.declared.iexpr.IExpr.{IExpr, fold-IExpr}
+use Rattle.mol_values.specs.declared.iexpr.IExpr.TheOpen.{IExpr-F, Argument-F}
+use Rattle.mol_values.specs.declared.iexpr.IExpr.TheVariants as exprs
+use Rattle.mol_values.specs.declared.known.Known.{Known}
+use Rattle.mol_values.specs.declared.known.Known.TheVariants as knowns
+use Rattle.mol_values.specs.declared.kind.MethodKind.TheVariants.{Constructor}
+use Rattle.mol_values.specs.declared.param.Param.{Param}
+use Rattle.mol_values.specs.declared.value.Value.{Value}
+use Rattle.mol_values.specs.declared.value.Value.TheVariants as values
 
 -- a filler as an expression: `-` (45) and a number is the unary minus of that number
 abbrev pub filler_expr : List ℕ → IExpr

@@ -2,8 +2,8 @@
 use Rattle.std.specs.Prelude.{ℕ, ◌+◌, Bool, true, false, ◌&&◌, ◌||◌, nat_le}
 use Rattle.mol_base.specs.Limits.{max_items}
 use Rattle.mol_table.specs.TokenForms.{is_dotted, is_empty}
-use Rattle.mol_table.specs.declared.itype.IType.{IType, fold-IType}
-use Rattle.mol_table.specs.declared.itype.IType.TheOpen.{IType-F}
+use Rattle.mol_values.specs.declared.itype.IType.{IType, fold-IType}
+use Rattle.mol_values.specs.declared.itype.IType.TheOpen.{IType-F}
 
 -- names are dotted names; what follows an imported name may be empty; `void` is no type
 abbrev pub named_step : IType-F Bool → Bool

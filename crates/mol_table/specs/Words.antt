@@ -6,9 +6,9 @@ use Rattle.std.specs.Str.{bytes_eq}
 use Rattle.std.specs.Cmp.Lexicographic.{pointwise}
 use Rattle.mol_base.specs.Among.{among}
 use Rattle.mol_base.specs.Modifiers.{kept_words, constructor_words, in_order, has_one_access}
-use Rattle.mol_table.specs.declared.iblock.IBody.{IBody}
-use Rattle.mol_table.specs.declared.kind.MethodKind.{MethodKind}
-use Rattle.mol_table.specs.declared.kind.MethodKind.TheVariants.{Instance, Static, Constructor}
+use Rattle.mol_values.specs.declared.iblock.IBody.{IBody}
+use Rattle.mol_values.specs.declared.kind.MethodKind.{MethodKind}
+use Rattle.mol_values.specs.declared.kind.MethodKind.TheVariants.{Instance, Static, Constructor}
 
 -- each is allowed, they stand in the order in which they are printed and each once, and at most one of them says who has access
 abbrev pub are_words : List String → List (List ℕ) → Bool

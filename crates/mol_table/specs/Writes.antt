@@ -5,16 +5,16 @@ use Rattle.std.specs.FinMap.{get, insert, contains_key}
 use Rattle.mol_base.specs.declared.ident.Id.{Id}
 use Rattle.mol_table.specs.Program.{Program, Knowns, cell}
 use Rattle.mol_table.specs.Rules.{IsProgram}
-use Rattle.mol_table.specs.Slots.{slot_of, slots_of}
-use Rattle.mol_table.specs.declared.cell.Cell.{Cell}
+use Rattle.mol_values.specs.Slots.{slot_of, slots_of}
+use Rattle.mol_values.specs.declared.cell.Cell.{Cell}
 use Rattle.mol_table.specs.declared.entity.NewEntity.{NewEntity}
-use Rattle.mol_table.specs.declared.kind.Kind.{Kind}
-use Rattle.mol_table.specs.declared.kind.Kind.TheVariants as kinds
-use Rattle.mol_table.specs.declared.known.Known.{Known}
-use Rattle.mol_table.specs.declared.known.Known.TheVariants as knowns
-use Rattle.mol_table.specs.declared.param.Param.{Param}
-use Rattle.mol_table.specs.declared.value.Value.{Value}
-use Rattle.mol_table.specs.declared.value.Value.TheVariants as values
+use Rattle.mol_values.specs.declared.kind.Kind.{Kind}
+use Rattle.mol_values.specs.declared.kind.Kind.TheVariants as kinds
+use Rattle.mol_values.specs.declared.known.Known.{Known}
+use Rattle.mol_values.specs.declared.known.Known.TheVariants as knowns
+use Rattle.mol_values.specs.declared.param.Param.{Param}
+use Rattle.mol_values.specs.declared.value.Value.{Value}
+use Rattle.mol_values.specs.declared.value.Value.TheVariants as values
 
 -- an identity that is not known is known as this; one that is known stays as it was
 abbrev pub kept_or : Knowns → Id → Known → Knowns
@@ -66,5 +66,5 @@ pub record AreOfKind (entity : NewEntity) : Type 0 where
 pub record AreNew (program : Program) (entities : List NewEntity) : Type 0 where
   pub kinds : All AreOfKind entities
   pub unknown : All (λ entity. get program.known entity.id ≡ None) entities
-  pub differ : AllPairs (λ one other. one.id ≢ other.id) entities
+  pub differ : AllPairs (λ first second. first.id ≢ second.id) entities
   pub rules : IsProgram (with_entities program entities)

@@ -1,32 +1,16 @@
-//! Whole programs as tables: what each class, method, declaration, field and parameter is, cell by cell.
+//! Whole programs as tables: what each class, method, declaration, field and parameter is, cell by cell. The values of
+//! the cells and their trees are those of `mol_values`.
 #![tactic(auto)]
 
-mod cell;
-mod copy;
 mod entity;
-mod iblock;
-mod iexpr;
-mod itype;
-mod kind;
-mod known;
 mod maps;
-mod param;
-mod renamed;
 mod renumber;
-mod same;
 mod table;
 mod tidy;
-mod value;
-mod words;
 
-pub use cell::{Cell, Slot};
 pub use entity::NewEntity;
-pub use iblock::{IBlock, IBody, IDeclarator, IElse, IForStart, IIf, ILet, IStmt, IStmtNode};
-pub use iexpr::{Argument, IExpr};
-pub use itype::IType;
-pub use kind::{Kind, MethodKind};
-pub use known::Known;
-pub use param::Param;
+pub use mol_values::{
+    Argument, Cell, IBlock, IBody, IDeclarator, IElse, IExpr, IForStart, IIf, ILet, IStmt,
+    IStmtNode, IType, Kind, Known, MethodKind, Notes, Param, Slot, Value, Words,
+};
 pub use table::Table;
-pub use value::Value;
-pub use words::{Notes, Words};

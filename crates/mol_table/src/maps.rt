@@ -370,12 +370,12 @@ impl Maps {
 }
 
 /// Whether both are one method, or neither is there.
-fn same_method(one: &Option<Id>, other: &Option<Id>) -> bool
-    ensures { result ≡ same_method one.now other.now }
+fn same_method(first: &Option<Id>, second: &Option<Id>) -> bool
+    ensures { result ≡ same_method first.now second.now }
 {
-    match (one, other) {
+    match (first, second) {
         (None, None) => true,
-        (Some(one), Some(other)) => one == other,
+        (Some(first), Some(second)) => first == second,
         _ => false,
     }
 }

@@ -5,7 +5,7 @@ ghost use Rattle.std.specs.FinMap as map;
 ghost use Rattle.mol_table.specs.Agreement.{AgreeAt, AgreeIfLiving, LivingAgree};
 ghost use Rattle.mol_table.specs.Identities.{IsAscending, AreKnown};
 ghost use Rattle.mol_table.specs.Life.{lives, lives_method, lists, is_living_entity};
-ghost use Rattle.mol_table.specs.Order.{id_eq};
+ghost use Rattle.mol_values.specs.Order.{id_eq};
 ghost use Rattle.mol_table.specs.Program.{Program, nothing, kind_of, method_of_param, params_in};
 ghost use Rattle.mol_table.specs.Maps.{AreKnown as ParamsKnown};
 ghost use Rattle.mol_table.specs.Renumber.{renumber, MayRenumber};
@@ -32,9 +32,9 @@ impl Model for Table {
     ghost use Rattle.mol_table.specs.Program.{Program};
     ghost use Rattle.mol_table.specs.Maps.{program_code, program_in, Stands};
     ghost use Rattle.mol_base.specs.contracts.ident.Id as id;
-    ghost use Rattle.mol_table.specs.contracts.cell.Cell as cell;
-    ghost use Rattle.mol_table.specs.contracts.known.Known as what;
-    ghost use Rattle.mol_table.specs.contracts.value.Value as value;
+    ghost use Rattle.mol_values.specs.contracts.cell.Cell as cell;
+    ghost use Rattle.mol_values.specs.contracts.known.Known as what;
+    ghost use Rattle.mol_values.specs.contracts.value.Value as value;
 
     ghost Value = { Program };
 
@@ -242,8 +242,8 @@ impl Table {
     ///
     /// The identities are not known and differ, none is a parameter, each entity's values are those of its
     /// kind in the order of the slots, and the rules of programs hold afterwards. The time is that of a
-    /// look-up for each value and each identity, and of sorting what becomes known; where that does not come
-    /// after all known identities, these are sorted with it, once a call.
+    /// look-up for each value and each identity, and of sorting what becomes known together with those known
+    /// identities that come after the least of it.
     pub fn add(&mut self, entities: List<NewEntity>) -> Result<(), OutOfMemory>
         requires { AreNew self.old entities }
         ensures ok { OnOk result (self.new ≡ with_entities self.old entities) }
@@ -253,8 +253,8 @@ impl Table {
     }
 
     /// Gives a cell that is there another value, and makes the parameters that it lists known with their
-    /// method; all else stays. For want of memory the table stays as it was. It takes memory only where
-    /// the value lists a parameter that is not known.
+    /// method; all else stays. For want of memory the table stays as it was. Memory is taken for the parameters of
+    /// the value that are not known yet, and for nothing else.
     ///
     /// The rules of programs hold afterwards.
     pub fn set(&mut self, cell: Cell, value: Value) -> Result<(), OutOfMemory>
@@ -276,12 +276,12 @@ pub(crate) fn is_among(id: &Id, params: &[Param]) -> bool
 }
 
 /// Whether both cells have a value and the same one, or neither has one.
-fn same_values(one: Option<&Value>, other: Option<&Value>) -> bool
-    ensures { IsTrue result ↔ (option_copied one.entry ≡ option_copied other.entry) }
+fn same_values(first: Option<&Value>, second: Option<&Value>) -> bool
+    ensures { IsTrue result ↔ (option_copied first.entry ≡ option_copied second.entry) }
 {
-    match (one, other) {
+    match (first, second) {
         (None, None) => true,
-        (Some(one), Some(other)) => one.same(other),
+        (Some(first), Some(second)) => first.same(second),
         _ => false,
     }
 }

@@ -1,83 +1,114 @@
 -- Reading file after file.
-use Rattle.std.proofs.Common.{◌≡◌, ℕ, ◌+◌, ◌<◌, ◌≤◌, List, [], ◌∷◌, ◌++◌, length, get_or, take, drop, map, Option, sym, ◌∙◌, ap, refl, arith, length-append, Bool, cond, true}
-use Rattle.std.specs.Prelude.{None, Some, option_map, find, is_none, is_some}
+use Rattle.std.proofs.Common.{◌≡◌, ℕ, zero, suc, ◌+◌, ◌<◌, ◌≤◌, List, [], ◌∷◌, ◌++◌, length, get_or, take, drop, map, Option, sym, ◌∙◌, ap, refl, arith, length-append, subst, Bool, cond, true, false}
+use Rattle.std.specs.Prelude.{None, Some, nat_lt}
 use Rattle.std.specs.Option.{ForSome}
 use Rattle.std.specs.FinMap.{get}
-use Rattle.std.proofs.lemmas.List.{length-map, get_or-map, take_more, map_push, take-append-drop, drop_more}
+use Rattle.std.proofs.lemmas.List.{length-map, get_or-map, take_more, map_push, drop_more}
 use Rattle.std.specs.List.{Contains}
 use Rattle.std.proofs.lemmas.Grind.{common_steps}
 use Rattle.std.proofs.lemmas.Bool.Decides.{nat_tests}
-use Rattle.std.proofs.lemmas.List.Folds.{find-append}
+use Rattle.std.proofs.lemmas.List.Elements.{All-append}
 use Rattle.mol_base.specs.Limits.{most}
 use Rattle.mol_base.specs.declared.file.File.{File}
-use Rattle.mol_base.specs.declared.limit.Which.TheVariants.{Files}
+use Rattle.mol_base.specs.declared.limit.Which.TheVariants.{Files, FileBytes, SourceBytes}
 use Rattle.mol_outside.specs.Contents.{Contents}
-use Rattle.mol_top.specs.ClassFiles.{FilePair}
+use Rattle.mol_top.specs.Files.{FilePair, base_paths, bytes_at, file_pair, file_pairs, files_at}
 use Rattle.mol_top.specs.Command.{joined}
-use Rattle.mol_top.specs.Inputs.{base_paths, files_at, is_absent, bytes_at}
-use Rattle.mol_top.specs.Refusals.{absent_file, absent_input, reading_refusal}
-use Rattle.mol_top.specs.Rows.{file_pair, file_pairs}
+use Rattle.mol_top.specs.Refusals.{absent_input, files_refusal, reading_refusal, size_refusal}
+use Rattle.mol_top.specs.Output.{AreSmall}
+use Rattle.mol_top.specs.Steps.{Stops}
 use Rattle.mol_top.specs.declared.status.Status.{Status}
-use Rattle.mol_top.specs.declared.status.Status.TheVariants.{Missing}
+use Rattle.mol_top.specs.declared.status.Status.TheVariants.{Limit}
+use Rattle.std.proofs.lemmas.Option.{same_Some}
 
--- the files at these paths are read, and the store is as it was
-pub record HasRead (held now : Option Contents) (reads reads_now writes writes_now : ℕ) (base : List ℕ) (paths : List (List ℕ)) (read : List File) : Type 0 where
+-- The files at the first of these paths are read, each of them and all together within the limits; what refuses all of the paths refuses the rest of
+-- them after so many bytes, and the store is as it was.
+pub record HasRead (held now : Option Contents) (reads reads_now writes writes_now : ℕ) (base : List ℕ) (paths : List (List ℕ)) (done total : ℕ) (read : List File) : Type 0 where
   pub holds : now ≡ held
   pub later : reads ≤ reads_now
   pub same : writes_now ≡ writes
-  pub count : length read ≡ length paths
-  pub told : ForSome held (λ h. (absent_file base h paths ≡ None) × (file_pairs read ≡ files_at base h paths))
-
-map_none : {A B : Type 0} (f : A → B) (o : Option A) → option_map f o ≡ None → o ≡ None
-map_none f None e = refl
-map_none f (Some x) e = cc
+  pub count : length read ≡ length (take done paths)
+  pub small : AreSmall read
+  pub within : total ≤ most SourceBytes
+  pub told : ForSome held (λ h. (files_refusal base h 0 paths ≡ files_refusal base h total (drop done paths)) × (file_pairs read ≡ files_at base h (take done paths)))
 
 -- one more path, whose file is there
-absent-push : (base : List ℕ) (h : Contents) (paths : List (List ℕ)) (path bytes : List ℕ) → absent_file base h paths ≡ None → get h (joined base path) ≡ Some bytes → absent_file base h (paths ++ path ∷ []) ≡ None
-absent-push base h paths path bytes none e =
-    rw (find-append (is_absent base h) paths (path ∷ []), map_none _ _ none, e) refl
-
 files-push : (base : List ℕ) (h : Contents) (paths : List (List ℕ)) (path bytes : List ℕ) → get h (joined base path) ≡ Some bytes → files_at base h (paths ++ path ∷ []) ≡ files_at base h paths ++ (path, bytes) ∷ []
 files-push base h paths path bytes e = rw (map_push {Y = FilePair} (λ p. (p, bytes_at base h p)) paths path, e) refl
 
-pub HasRead-more : (held now now2 : Option Contents) (r0 r1 r2 w0 w1 w2 : ℕ) (base : List ℕ) (paths : List (List ℕ)) (i : ℕ) (read : List File) (file : File)
-    → HasRead held now r0 r1 w0 w1 base (take i paths) read → i < length paths → file.path ≡ get_or paths i file.path
+-- a file that is there and within the limits leaves the rest to refuse
+refusal-rest : (base : List ℕ) (h : Contents) (total : ℕ) (path bytes : List ℕ) (rest : List (List ℕ)) → get h (joined base path) ≡ Some bytes → size_refusal total (length bytes) ≡ None
+    → files_refusal base h total (path ∷ rest) ≡ files_refusal base h (total + length bytes) rest
+refusal-rest base h total path bytes rest there fits = rw (there, fits) refl
+
+small-push : (read : List File) (file : File) → AreSmall read → length file.bytes ≤ most FileBytes → AreSmall (read ++ file ∷ [])
+small-push read file all small = All-append (λ (file : File). length file.bytes ≤ most FileBytes) read (file ∷ []) all last where
+  last : AreSmall (file ∷ [])
+  last zero d within = small
+  last (suc k) d within = absurd (omega (arith, within))
+
+pub HasRead-more : (held now now2 : Option Contents) (r0 r1 r2 w0 w1 w2 : ℕ) (base : List ℕ) (paths : List (List ℕ)) (i total sum : ℕ) (read : List File) (file : File)
+    → HasRead held now r0 r1 w0 w1 base paths i total read → i < length paths → file.path ≡ get_or paths i file.path
     → now2 ≡ now → r1 ≤ r2 → w2 ≡ w1 → ForSome now (λ h. get h (joined base file.path) ≡ Some file.bytes)
-    → HasRead held now2 r0 r2 w0 w2 base (take (i + 1) paths) (read ++ file ∷ [])
-HasRead-more held now now2 r0 r1 r2 w0 w1 w2 base paths i read file had within is same later writes there =
+    → size_refusal total (length file.bytes) ≡ None → sum ≡ total + length file.bytes → sum ≤ most SourceBytes → length file.bytes ≤ most FileBytes
+    → HasRead held now2 r0 r2 w0 w2 base paths (i + 1) sum (read ++ file ∷ [])
+HasRead-more held now now2 r0 r1 r2 w0 w1 w2 base paths i total sum read file had within is same later writes there fits sums under small =
     let more : take (i + 1) paths ≡ take i paths ++ file.path ∷ [] = take_more paths i file.path within ∙ ap (λ x. take i paths ++ x ∷ []) (sym is) in
+    let next : drop i paths ≡ file.path ∷ drop (i + 1) paths = drop_more paths i file.path within ∙ ap (λ x. x ∷ drop (i + 1) paths) (sym is) in
     record {
       holds = same ∙ had.holds;
       later = omega (arith, had.later, later);
       same = writes ∙ had.same;
       count = rw more (length-append read (file ∷ []) ∙ ap (λ n. n + 1) had.count ∙ sym (length-append (take i paths) (file.path ∷ [])));
+      small = small-push read file had.small small;
+      within = under;
       told = λ h e.
           let t = had.told h e in
-          let g = there h (had.holds ∙ e) in
-          rw more (
-            absent-push base h (take i paths) file.path file.bytes t.0 g,
-            map_push file_pair read file ∙ ap (λ x. x ++ file_pair file ∷ []) t.1 ∙ sym (files-push base h (take i paths) file.path file.bytes g),
+          let g = there h (had.holds ∙ e) in (
+            t.0 ∙ ap (files_refusal base h total) next ∙ refusal-rest base h total file.path file.bytes (drop (i + 1) paths) g fits
+                ∙ ap (λ n. files_refusal base h n (drop (i + 1) paths)) (sym sums),
+            rw more (map_push file_pair read file ∙ ap (λ x. x ++ file_pair file ∷ []) t.1 ∙ sym (files-push base h (take i paths) file.path file.bytes g)),
           );
     }
 
--- where the first i don't pass and the next does, that is what `find` gives
-find-next : {X : Type 0} (p : X → Bool) (xs : List X) (i : ℕ) (x : X) → find p (take i xs) ≡ None → i < length xs → x ≡ get_or xs i x → p x ≡ true → find p xs ≡ Some x
-find-next p xs i x none within is passes =
-    let parts : xs ≡ take i xs ++ x ∷ drop (i + 1) xs = sym (take-append-drop i xs) ∙ ap (λ y. take i xs ++ y) (drop_more xs i x within ∙ ap (λ y. y ∷ drop (i + 1) xs) (sym is)) in
-    ap (find p) parts ∙ find-append p (take i xs) (x ∷ drop (i + 1) xs) ∙ rw (none, passes) refl
+drop_past : {X : Type 0} (xs : List X) (i : ℕ) → length xs ≤ i → drop i xs ≡ []
+drop_past [] zero past = refl
+drop_past [] (suc i) past = refl
+drop_past (x ∷ xs) zero past = absurd (omega (arith, past))
+drop_past (x ∷ xs) (suc i) past = drop_past xs i (omega (arith, past))
 
-is_absent_from : (path : List ℕ) (o : Option (List ℕ)) (s : Status) → cond (is_some o) None (Some (Missing path)) ≡ Some s → (is_none o ≡ true) × (Missing path ≡ s)
-is_absent_from path None s e = (refl, cc)
-is_absent_from path (Some x) s e = absurd cc
+-- all paths are read
+pub nothing-left : (base : List ℕ) (h : Contents) (total : ℕ) (paths : List (List ℕ)) (i : ℕ) → length paths ≤ i → files_refusal base h total (drop i paths) ≡ None
+nothing-left base h total paths i past = ap (files_refusal base h total) (drop_past paths i past)
 
--- the first that is absent is absent from the whole
-pub absent-later : (base : List ℕ) (h : Contents) (paths : List (List ℕ)) (i : ℕ) (path : List ℕ) (s : Status)
-    → absent_file base h (take i paths) ≡ None → i < length paths → path ≡ get_or paths i path
-    → absent_input (joined base path) h ≡ Some s → absent_file base h paths ≡ Some s
-absent-later base h paths i path s none within is stops =
-    let a = is_absent_from (joined base path) (get h (joined base path)) s stops in
-    let f = find-next (is_absent base h) paths i path (map_none _ _ none) within is a.0 in
-    rw (f, ← a.1) refl
+-- the next file is absent
+pub absent-next : (base : List ℕ) (h : Contents) (paths : List (List ℕ)) (i total : ℕ) (path : List ℕ) (s : Status)
+    → files_refusal base h 0 paths ≡ files_refusal base h total (drop i paths) → i < length paths → path ≡ get_or paths i path
+    → absent_input (joined base path) h ≡ Some s → files_refusal base h 0 paths ≡ Some s
+absent-next base h paths i total path s rest within is stops =
+    let next : drop i paths ≡ path ∷ drop (i + 1) paths = drop_more paths i path within ∙ ap (λ x. x ∷ drop (i + 1) paths) (sym is) in
+    rest ∙ ap (files_refusal base h total) next ∙ rw stops refl
+
+-- the next file is there and passes a limit
+pub large-next : (base : List ℕ) (h : Contents) (paths : List (List ℕ)) (i total : ℕ) (path bytes : List ℕ) (s : Status)
+    → files_refusal base h 0 paths ≡ files_refusal base h total (drop i paths) → i < length paths → path ≡ get_or paths i path
+    → get h (joined base path) ≡ Some bytes → size_refusal total (length bytes) ≡ Some s → files_refusal base h 0 paths ≡ Some s
+large-next base h paths i total path bytes s rest within is there stops =
+    let next : drop i paths ≡ path ∷ drop (i + 1) paths = drop_more paths i path within ∙ ap (λ x. x ∷ drop (i + 1) paths) (sym is) in
+    rest ∙ ap (files_refusal base h total) next ∙ rw (there, stops) refl
+
+-- a limit stops a step: what passes it is a refusal
+limit_refuses : (total size : ℕ) (s : Status) → size_refusal total size ≡ Some s → (n : List ℕ → Type 0) (b a : ℕ) (held : Option Contents) (r : Contents → Option Status)
+    → ForSome held (λ h. r h ≡ Some s) → Stops n b a held r s
+limit_refuses total size s refused n b a held r told = by_tests (nat_lt (most FileBytes) size) (nat_lt (most SourceBytes) (total + size)) refused where
+  by_tests : (x y : Bool) → cond x (Some (Limit FileBytes size)) (cond y (Some (Limit SourceBytes (total + size))) None) ≡ Some s → Stops n b a held r s
+  by_tests true y e = subst (λ s. ForSome held (λ h. r h ≡ Some s) → Stops n b a held r s) (same_Some _ _ e) (λ t. t) told
+  by_tests false true e = subst (λ s. ForSome held (λ h. r h ≡ Some s) → Stops n b a held r s) (same_Some _ _ e) (λ t. t) told
+  by_tests false false e = absurd cc
+
+pub limit_stops : (n : List ℕ → Type 0) (b a : ℕ) (held : Option Contents) (r : Contents → Option Status) (total size : ℕ) (s : Status) → size_refusal total size ≡ Some s
+    → ((h : Contents) → held ≡ Some h → (s : Status) → size_refusal total size ≡ Some s → r h ≡ Some s) → Stops n b a held r s
+limit_stops n b a held r total size s refused told = limit_refuses total size s refused n b a held r (λ h e. told h e s refused)
 
 -- a path among others is below the base among theirs
 pub Contains-joined : (base : List ℕ) (paths : List (List ℕ)) (path : List ℕ) → Contains paths path → Contains (map (joined base) paths) (joined base path)
@@ -85,5 +116,5 @@ Contains-joined base paths path among = (among.0, rw (length-map paths (joined b
 
 -- what still refuses the reading of a base, once its paths are listed
 pub reading-listed : (base : List ℕ) (h : Contents) (paths : List (List ℕ)) → base_paths base h ≡ paths → 0 < length paths → length paths ≤ most Files
-    → reading_refusal base h ≡ absent_file base h paths
+    → reading_refusal base h ≡ files_refusal base h 0 paths
 reading-listed base h paths is some few = grind (arith, common_steps, nat_tests)

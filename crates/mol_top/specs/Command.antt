@@ -3,21 +3,33 @@ use Rattle.std.specs.Prelude.{ℕ, List, [], ◌∷◌, ◌++◌, codes, Option,
 use Rattle.std.specs.Cmp.Lexicographic.{pointwise}
 
 -- `merge BASE LOG1 LOG2 OUT`
-pub record Command : Type 0 where
+pub record MergeWords : Type 0 where
   pub base : List ℕ
   pub first : List ℕ
   pub second : List ℕ
   pub out : List ℕ
 
+-- `fmt BASE OUT`
+pub record FmtWords : Type 0 where
+  pub base : List ℕ
+  pub out : List ℕ
+
+-- a command with its words
+pub data Command : Type 0 where
+  merge : MergeWords → Command
+  fmt : FmtWords → Command
+
 -- the command that the words spell, if they spell one
 abbrev pub command : List (List ℕ) → Option Command
+command (verb ∷ base ∷ out ∷ []) =
+    if pointwise nat_eq verb (codes "fmt") then Some (Command.fmt (record { base = base; out = out })) else None
 command (verb ∷ base ∷ first ∷ second ∷ out ∷ []) =
-    if pointwise nat_eq verb (codes "merge") then Some (record { base = base; first = first; second = second; out = out }) else None
+    if pointwise nat_eq verb (codes "merge") then Some (Command.merge (record { base = base; first = first; second = second; out = out })) else None
 command words = None
 
 -- the two logs in the other order
-abbrev pub swapped : Command → Command
-swapped c = record c { first = c.second; second = c.first }
+abbrev pub swapped : MergeWords → MergeWords
+swapped words = record words { first = words.second; second = words.first }
 
 -- a path below a folder
 abbrev pub joined : List ℕ → List ℕ → List ℕ

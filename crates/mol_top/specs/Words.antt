@@ -1,6 +1,16 @@
 -- The words of a command, as the code keeps them.
-use Rattle.mol_top.specs.Command.{Command}
-use Rattle.mol_top.specs.declared.words.Words.{Words}
+use Rattle.mol_top.specs.Command as words
+use Rattle.mol_top.specs.declared.command.Command.{Command}
+use Rattle.mol_top.specs.declared.command.Command.TheVariants.{Merge, Fmt}
+use Rattle.mol_top.specs.declared.command.FmtWords.{FmtWords}
+use Rattle.mol_top.specs.declared.command.MergeWords.{MergeWords}
 
-abbrev pub words_command : Words → Command
-words_command words = record { base = words.base.now; first = words.first.now; second = words.second.now; out = words.out.now }
+abbrev pub merge_words : MergeWords → words.MergeWords
+merge_words given = record { base = given.base.now; first = given.first.now; second = given.second.now; out = given.out.now }
+
+abbrev pub fmt_words : FmtWords → words.FmtWords
+fmt_words given = record { base = given.base.now; out = given.out.now }
+
+abbrev pub command_of : Command → words.Command
+command_of (Merge given) = words.Command.merge (merge_words given)
+command_of (Fmt given) = words.Command.fmt (fmt_words given)

@@ -1,29 +1,28 @@
 //! What a run prints.
 ghost use Rattle.std.specs.Prelude.{◌≡◌, ◌++◌, ◌∷◌, [], IfOk, OnOk};
-ghost use Rattle.mol_top.specs.Report.{merge_report as merge_report_of, refusal_line as refusal_line_of, cause_text, limit_text};
+ghost use Rattle.mol_source.specs.FaultTexts as faults;
+ghost use Rattle.jav_rules.specs.Features.{name as feature_name};
+ghost use Rattle.mol_top.specs.Report.{fmt_report as fmt_report_of, refusal_line as refusal_line_of, base_fault_text, cause_text, limit_text, place_text, source_fault_text};
 ghost use Rattle.std.specs.Prelude.{codes};
 ghost use Rattle.std.specs.Fmt.{decimal};
 
-mod conflicts;
-mod pieces;
-mod values;
-
 use crate::append::push_number;
-use crate::status::{LogCause, ReplayFault, Status};
-pub use conflicts::conflicts_report;
-use mol_base::{OutOfMemory, Tag, Text, Which};
+use crate::renames::push_fault;
+use crate::status::{BaseFault, LogCause, ReplayFault, Status};
+use mol_base::{OutOfMemory, Place, Tag, Text, Which};
+use mol_source::SourceFault;
 use mol_table::Table;
-use pieces::push_fault;
 use std::alloc::Global;
 
-/// The report of a merge that wrote so many files and a log of so many operations.
-pub fn merge_report(alloc: Global, files: usize, operations: usize) -> Result<Vec<u8>, OutOfMemory>
-    ensures { IfOk result (λ report. report.items ≡ merge_report_of files operations) }
+/// A line for each command.
+pub const USAGE: &[u8] = b"usage: molref fmt BASE OUT\nusage: molref merge BASE LOG1 LOG2 OUT\n";
+
+/// The report of so many files that were written in the one layout.
+pub fn fmt_report(alloc: Global, files: usize) -> Result<Vec<u8>, OutOfMemory>
+    ensures { IfOk result (λ report. report.items ≡ fmt_report_of files) }
 {
-    let mut report = Vec::from_slice(alloc, b"merged\nfiles ")?;
+    let mut report = Vec::from_slice(alloc, b"files ")?;
     push_number(alloc, &mut report, files as u64)?;
-    report.extend_from_slice(b"\noperations ")?;
-    push_number(alloc, &mut report, operations as u64)?;
     report.push(b'\n')?;
     Ok(report)
 }
@@ -34,9 +33,8 @@ pub fn refusal_line(alloc: Global, base: &Table, status: &Status) -> Result<Vec<
 {
     match status {
         Status::Done | Status::Conflicts(_) => Ok(Vec::new(alloc)),
-        Status::Usage => {
-            Ok(Vec::from_slice(alloc, b"usage: molref merge BASE LOG1 LOG2 OUT\n")?)
-        }
+        Status::Usage => Ok(Vec::from_slice(alloc, USAGE)?),
+        Status::BaseRefused(fault) => base_line(alloc, fault),
         Status::LogRefused(which, cause) => log_line(alloc, base, *which, cause),
         Status::ReadFailed(path) => path_line(alloc, b"read-failed ", path),
         Status::Missing(path) => path_line(alloc, b"missing ", path),
@@ -56,6 +54,48 @@ fn path_line(alloc: Global, word: &[u8], path: &Text) -> Result<Vec<u8>, OutOfMe
     line.extend_from_slice(path.bytes())?;
     line.push(b'\n')?;
     Ok(line)
+}
+
+/// The line of a refused base.
+fn base_line(alloc: Global, fault: &BaseFault) -> Result<Vec<u8>, OutOfMemory>
+    ensures { IfOk result (λ line. line.items ≡ codes "base " ++ base_fault_text fault.now ++ 10 ∷ []) }
+{
+    let mut line = Vec::from_slice(alloc, b"base ")?;
+    match fault {
+        BaseFault::Source(place, fault) => push_source_fault(alloc, &mut line, place, fault)?,
+    }
+    line.push(b'\n')?;
+    Ok(line)
+}
+
+/// Appends a place in a file and what is wrong there.
+fn push_source_fault(
+    alloc: Global,
+    out: &mut Vec<u8>,
+    place: &Place,
+    fault: &SourceFault,
+) -> Result<(), OutOfMemory>
+    ensures { OnOk result (out.new.items ≡ out.old.items ++ (place_text place.now ++ 32 ∷ source_fault_text fault.now)) }
+{
+    out.extend_from_slice(place.file.bytes())?;
+    out.push(b':')?;
+    push_number(alloc, out, u64::from(place.line))?;
+    out.push(b':')?;
+    push_number(alloc, out, u64::from(place.column))?;
+    out.push(b' ')?;
+    push_fault_name(out, fault)
+}
+
+/// Appends the name of a fault, and the part of Java that it refuses where it does.
+fn push_fault_name(out: &mut Vec<u8>, fault: &SourceFault) -> Result<(), OutOfMemory>
+    ensures { OnOk result (out.new.items ≡ out.old.items ++ source_fault_text fault.now) }
+{
+    out.extend_from_slice(fault.name().as_bytes())?;
+    if let Some(feature) = fault.feature() {
+        out.push(b' ')?;
+        out.extend_from_slice(feature.name().as_bytes())?;
+    }
+    Ok(())
 }
 
 /// The line of a refused log.

@@ -1,6 +1,7 @@
 //! The answers of a run.
 use crate::Fault;
-use mol_base::{OutOfMemory, Tag, Text, Which};
+use mol_base::{OutOfMemory, Place, Tag, Text, Which};
+use mol_source::SourceFault;
 use std::alloc::{AllocError, AllocFailed};
 
 /// Why a log does not replay on its base.
@@ -8,6 +9,13 @@ use std::alloc::{AllocError, AllocFailed};
 pub enum ReplayFault {
     /// What the log leaves has a fault; this is the first.
     NotClean(Fault),
+}
+
+/// Why a base is refused.
+#[derive(Debug, Drop)]
+pub enum BaseFault {
+    /// The file of this place, relative to the base, is no source: there its first fault is.
+    Source(Place, SourceFault),
 }
 
 /// Why a log is refused.
@@ -27,6 +35,8 @@ pub enum Status {
     Conflicts(u64),
     /// The words are no command.
     Usage,
+    /// The base is refused.
+    BaseRefused(BaseFault),
     /// The log of this number, 1 or 2, is refused.
     LogRefused(u8, LogCause),
     /// A listing or a read failed, of the folder or file of this path.
@@ -56,6 +66,7 @@ impl Status {
             Status::Done => 0,
             Status::Conflicts(_) => 1,
             Status::Usage => 2,
+            Status::BaseRefused(_) => 3,
             Status::LogRefused(..) => 4,
             Status::ReadFailed(_) => 5,
             Status::Missing(_) => 6,

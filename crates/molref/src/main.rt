@@ -3,7 +3,7 @@
 
 use mol_base::{List, Text};
 use mol_outside::{DirFiles, Sink, StdSink};
-use mol_top::{Status, run};
+use mol_top::{Status, USAGE, run};
 use std::env;
 use std::io::ErrorKind;
 use std::process::ExitCode;
@@ -38,7 +38,7 @@ fn main(rt: HostRuntime) -> ExitCode {
             ExitCode::from(run(rt.alloc(), &words, &mut files, &mut out).code())
         }
         Err(Unread::NotUtf8) => {
-            let _ = out.put(b"usage: molref merge BASE LOG1 LOG2 OUT\n");
+            let _ = out.put(USAGE);
             ExitCode::from(Status::Usage.code())
         }
         Err(Unread::OutOfMemory) => {

@@ -7,6 +7,10 @@ mod failing_calls;
 #[cfg(test)]
 mod first_path;
 #[cfg(test)]
+mod formatted;
+#[cfg(test)]
+mod no_sources;
+#[cfg(test)]
 mod refused_bases;
 #[cfg(test)]
 mod refused_logs;

@@ -6,13 +6,21 @@ use std::test::Fail;
 #[test]
 fn other_words_print_the_usage(rt: HostRuntime) -> Result<(), Fail> {
     let files = with_logs(ANN, BOB);
-    let wanted = Wanted::line(2, "usage: molref merge BASE LOG1 LOG2 OUT\n");
+    let wanted = Wanted::line(
+        2,
+        "usage: molref fmt BASE OUT\nusage: molref merge BASE LOG1 LOG2 OUT\n",
+    );
     let lines = [
         "",
         "merge",
         "merge B L1 L2",
         "merge B L1 L2 O O",
+        "fmt",
+        "fmt B",
+        "fmt B L1 O",
+        "Fmt B O",
         "fmt B L1 L2 O",
+        "merge B O",
         "Merge B L1 L2 O",
         "merged B L1 L2 O",
         "-merge B L1 L2 O",

@@ -1,6 +1,7 @@
 //! What is known stands ascending: what becomes known goes to the end first, and is then put in its place.
-ghost use Rattle.std.specs.Prelude.{◌≡◌, ◌⊎◌, ◌≤◌, ◌<◌, ◌+◌, ◌++◌, ℕ, length, take, drop, slice_index_or, IfOk, IsTrue};
-ghost use Rattle.std.specs.List.Sorted.{IsPermutation, IsSorted};
+ghost use Rattle.std.specs.Prelude.{◌≡◌, ◌⊎◌, ◌≤◌, ◌<◌, ◌+◌, ◌++◌, ℕ, true, false, length, take, drop, slice_index_or, IfOk, IsTrue};
+ghost use Rattle.std.specs.List.{All, Contains};
+ghost use Rattle.std.specs.List.Sorted.{IsPartitionPoint, IsPermutation, IsSorted};
 ghost use Rattle.std.specs.Ordering.{is_lt};
 ghost use Rattle.std.specs.Vec.{vec_capacity};
 ghost use Rattle.std.specs.declared.cmp.Ordering.TheVariants.{Less};
@@ -27,8 +28,9 @@ impl Maps {
     }
 
     /// Puts what is known in order. So many identities ascend already, and if there are more there is room
-    /// to sort them all. The time is linear in the rest where that ascends too; else the rest is sorted, and
-    /// where it does not come after the first ones, all is.
+    /// to sort them all. The time is linear in the rest where that ascends too; else it is that of sorting
+    /// the rest together with those of the first ones that come after the least of it. Those that come
+    /// before it are not touched.
     pub fn arrange(&mut self, from: usize, mut room: Vec<Id>)
         requires first { AscendsTo from (keys self.old.known) }
         requires within { from ≤ length self.old.known.entries }
@@ -37,13 +39,12 @@ impl Maps {
         ensures ordered { IsOrdered self.new }
         ensures rest { self.new ≡ record self.old { known = self.new.known } }
     {
-        if self.known.len() == from || ascends_from(self.known.keys().as_slice(), from) {
+        let ids = self.known.keys().as_slice();
+        if ids.len() == from || ascends_from(ids, from) {
             return;
         }
-        sort_from(&mut self.known, from, &mut room);
-        if !ascends_from(self.known.keys().as_slice(), from) {
-            sort_from(&mut self.known, 0, &mut room);
-        }
+        let place = count_before(&ids[..from], &least_of(&ids[from..]));
+        sort_from(&mut self.known, place, &mut room);
     }
 }
 
@@ -52,16 +53,23 @@ fn sort_from(known: &mut IndexMap<Id, Known>, from: usize, room: &mut Vec<Id>)
     requires within { from ≤ length known.old.entries }
     requires room { length known.old.entries ≤ vec_capacity room.old }
     ensures known { knowns_of known.new.entries ≡ knowns_of known.old.entries }
-    ensures first { AscendsTo from (keys known.old) → AscendsTo from (keys known.new) }
-    ensures sorted { from ≡ 0 → IsSorted id_cmp (keys known.new) }
-    ensures len { length known.new.entries ≡ length known.old.entries }
-    ensures room { vec_capacity room.old ≤ vec_capacity room.new }
+    ensures first { take from (keys known.new) ≡ take from (keys known.old) }
+    ensures same { IsPermutation (drop from (keys known.old)) (drop from (keys known.new)) }
+    ensures sorted { IsSorted id_cmp (drop from (keys known.new)) }
+{
+    sort_into(room, &known.keys().as_slice()[from..]);
+    put_in_order(known, from, room.as_slice());
+}
+
+/// Fills the room with identities, ascending. There is room for them.
+fn sort_into(room: &mut Vec<Id>, ids: &[Id])
+    requires { length ids.now ≤ vec_capacity room.old }
+    ensures same { IsPermutation ids.now room.new.items }
+    ensures sorted { IsSorted id_cmp room.new.items }
 {
     room.clear();
-    room.extend_from_slice(&known.keys().as_slice()[from..])
-        .unwrap();
+    room.extend_from_slice(ids).unwrap();
     room.as_mut_slice().sort_unstable();
-    put_in_order(known, from, room.as_slice());
 }
 
 /// Puts the entries from a place on into this order, in which each of them has its identity.
@@ -104,9 +112,33 @@ fn ascends_at(ids: &[Id], at: usize) -> bool
     comes_before(&ids[at - 1], &ids[at])
 }
 
-/// Whether the first identity is the lesser one.
-fn comes_before(one: &Id, other: &Id) -> bool
-    ensures { result ≡ is_lt (id_cmp one.now other.now) }
+/// The least of some identities.
+fn least_of(ids: &[Id]) -> Id
+    requires { 0 < length ids.now }
+    ensures there { Contains ids.now result }
+    ensures least { All (λ id. is_lt (id_cmp id result) ≡ false) ids.now }
 {
-    one < other
+    let mut least = ids[0];
+    for id in ids {
+        if comes_before(id, &least) {
+            least = *id;
+        }
+    }
+    least
+}
+
+/// How many identities come before this one. They ascend, so that those which do stand first.
+fn count_before(ids: &[Id], id: &Id) -> usize
+    requires { IsAscending ids.now }
+    ensures within { result ≤ length ids.now }
+    ensures place { IsPartitionPoint (λ first. is_lt (id_cmp first id.now) ≡ true) (λ first. is_lt (id_cmp first id.now) ≡ false) ids.now result }
+{
+    ids.partition_point(|first| comes_before(first, id))
+}
+
+/// Whether the first identity is the lesser one.
+fn comes_before(first: &Id, second: &Id) -> bool
+    ensures { result ≡ is_lt (id_cmp first.now second.now) }
+{
+    first < second
 }

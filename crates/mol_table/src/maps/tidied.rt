@@ -7,6 +7,7 @@ ghost use Rattle.mol_table.specs.Tidying.{entry_by};
 
 use crate::maps::Maps;
 use crate::maps::copy::{copy_known, copy_numbers};
+use crate::tidy::tidy_value;
 use crate::{Cell, Value};
 use indexmap::IndexMap;
 use mol_base::{Id, OutOfMemory};
@@ -41,7 +42,7 @@ fn tidied_cells(
     let mut tidied = IndexMap::with_capacity(alloc, maps.cells.len())?;
     for cell in maps.cells.keys().as_slice() {
         if let Some(value) = maps.cells.get(cell) {
-            drop(tidied.insert(*cell, value.tidied(alloc, maps, index)?)?);
+            drop(tidied.insert(*cell, tidy_value(alloc, maps, index, value)?)?);
         }
     }
     Ok(tidied)

@@ -5,7 +5,7 @@ ghost use Rattle.std.specs.List.{filter};
 ghost use Rattle.indexmap.specs.IndexMap.{keys};
 ghost use Rattle.mol_table.specs.Counting.{passing};
 ghost use Rattle.mol_table.specs.Maps.{program_in, IsOrdered};
-ghost use Rattle.mol_table.specs.Renaming.{IsInOrder};
+ghost use Rattle.mol_table.specs.Numbering.{IsInOrder};
 ghost use Rattle.mol_table.specs.Renumber.{is_living_class, class_number};
 ghost use Rattle.mol_table.specs.ClassFiles.{file_at, file_of};
 

@@ -1,6 +1,6 @@
 //! The new identities.
 ghost use Rattle.std.specs.Prelude.{◌<◌, ◌^◌, IfOk, length};
-ghost use Rattle.mol_table.specs.Renaming.{AreApart, AreNames};
+ghost use Rattle.mol_table.specs.Numbering.{AreApart, AreNames};
 
 use indexmap::IndexMap;
 use mol_base::{Id, OutOfMemory, Tag};

@@ -6,7 +6,7 @@ ghost use Rattle.mol_table.specs.Counting.{is_of, living_of};
 ghost use Rattle.mol_table.specs.Faults.{is_above, is_topmost};
 ghost use Rattle.mol_table.specs.Looked.{HasTops};
 ghost use Rattle.mol_table.specs.Maps.{program_in, Stands};
-ghost use Rattle.mol_table.specs.Order.{id_eq};
+ghost use Rattle.mol_values.specs.Order.{id_eq};
 ghost use Rattle.mol_table.specs.Program.{owner_at};
 ghost use Rattle.mol_table.specs.Renumber.{topmost};
 

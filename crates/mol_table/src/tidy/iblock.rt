@@ -1,47 +1,43 @@
 //! Bodies, blocks and statements, tidied.
 ghost use Rattle.std.specs.Prelude.{◌≡◌, IfOk, map};
-ghost use Rattle.mol_table.specs.Blocks.{branch_of};
+ghost use Rattle.mol_values.specs.Blocks.{branch_of};
 ghost use Rattle.mol_table.specs.Tidying.{expr_by, declarator_by, let_by, start_by, else_by, node_by, block_by, if_by, statement_by, body_by};
 
-use crate::copy::copy_texts;
 use crate::maps::Maps;
-use crate::tidy::{tidy_all, tidy_arguments, tidy_maybe};
+use crate::tidy::{tidy_all, tidy_arguments, tidy_expr, tidy_maybe};
 use crate::{IBlock, IBody, IDeclarator, IElse, IExpr, IForStart, IIf, ILet, IStmt, IStmtNode};
 use indexmap::IndexMap;
 use mol_base::{Boxed, Id, List, OutOfMemory};
+use mol_values::copy_texts;
 use std::alloc::Global;
 
-impl IBody {
-    /// The body, tidied.
-    pub(crate) fn tidied(
-        &self,
-        alloc: Global,
-        maps: &Maps,
-        index: &IndexMap<Id, Id>,
-    ) -> Result<IBody, OutOfMemory>
-        ensures { IfOk result (λ tidied. tidied ≡ body_by maps.now index.now.entries self.now) }
-    {
-        Ok(IBody {
-            block: self.block.tidied(alloc, maps, index)?,
-        })
-    }
+/// The body, tidied.
+pub(crate) fn tidy_body(
+    alloc: Global,
+    maps: &Maps,
+    index: &IndexMap<Id, Id>,
+    body: &IBody,
+) -> Result<IBody, OutOfMemory>
+    ensures { IfOk result (λ tidied. tidied ≡ body_by maps.now index.now.entries body.now) }
+{
+    Ok(IBody {
+        block: tidy_block(alloc, maps, index, &body.block)?,
+    })
 }
 
-impl IDeclarator {
-    /// The variable and its first value, tidied.
-    pub(crate) fn tidied(
-        &self,
-        alloc: Global,
-        maps: &Maps,
-        index: &IndexMap<Id, Id>,
-    ) -> Result<IDeclarator, OutOfMemory>
-        ensures { IfOk result (λ tidied. tidied ≡ declarator_by maps.now index.now.entries self.now) }
-    {
-        Ok(IDeclarator {
-            name: self.name.copy(alloc)?,
-            init: tidy_maybe(alloc, maps, index, &self.init)?,
-        })
-    }
+/// The variable and its first value, tidied.
+fn tidy_declarator(
+    alloc: Global,
+    maps: &Maps,
+    index: &IndexMap<Id, Id>,
+    declarator: &IDeclarator,
+) -> Result<IDeclarator, OutOfMemory>
+    ensures { IfOk result (λ tidied. tidied ≡ declarator_by maps.now index.now.entries declarator.now) }
+{
+    Ok(IDeclarator {
+        name: declarator.name.copy(alloc)?,
+        init: tidy_maybe(alloc, maps, index, &declarator.init)?,
+    })
 }
 
 fn tidy_names(
@@ -54,120 +50,108 @@ fn tidy_names(
 {
     let mut all = List::new(alloc);
     for item in items {
-        all.add(item.tidied(alloc, maps, index)?)?;
+        all.add(tidy_declarator(alloc, maps, index, item)?)?;
     }
     Ok(all)
 }
 
-impl ILet {
-    /// The declaration, tidied.
-    pub(crate) fn tidied(
-        &self,
-        alloc: Global,
-        maps: &Maps,
-        index: &IndexMap<Id, Id>,
-    ) -> Result<ILet, OutOfMemory>
-        ensures { IfOk result (λ tidied. tidied ≡ let_by maps.now index.now.entries self.now) }
-    {
-        Ok(ILet {
-            is_final: self.is_final,
-            ty: self.ty.copy(alloc)?,
-            names: tidy_names(alloc, maps, index, self.names.items())?,
-        })
+/// The declaration, tidied.
+fn tidy_let(
+    alloc: Global,
+    maps: &Maps,
+    index: &IndexMap<Id, Id>,
+    decl: &ILet,
+) -> Result<ILet, OutOfMemory>
+    ensures { IfOk result (λ tidied. tidied ≡ let_by maps.now index.now.entries decl.now) }
+{
+    Ok(ILet {
+        is_final: decl.is_final,
+        ty: decl.ty.copy(alloc)?,
+        names: tidy_names(alloc, maps, index, decl.names.items())?,
+    })
+}
+
+/// The start, tidied.
+fn tidy_start(
+    alloc: Global,
+    maps: &Maps,
+    index: &IndexMap<Id, Id>,
+    start: &IForStart,
+) -> Result<IForStart, OutOfMemory>
+    ensures { IfOk result (λ tidied. tidied ≡ start_by maps.now index.now.entries start.now) }
+{
+    match start {
+        IForStart::None => Ok(IForStart::None),
+        IForStart::Let(decl) => Ok(IForStart::Let(tidy_let(alloc, maps, index, decl)?)),
+        IForStart::Do(all) => Ok(IForStart::Do(tidy_all(alloc, maps, index, all.items())?)),
     }
 }
 
-impl IForStart {
-    /// The start, tidied.
-    pub(crate) fn tidied(
-        &self,
-        alloc: Global,
-        maps: &Maps,
-        index: &IndexMap<Id, Id>,
-    ) -> Result<IForStart, OutOfMemory>
-        ensures { IfOk result (λ tidied. tidied ≡ start_by maps.now index.now.entries self.now) }
-    {
-        match self {
-            IForStart::None => Ok(IForStart::None),
-            IForStart::Let(decl) => Ok(IForStart::Let(decl.tidied(alloc, maps, index)?)),
-            IForStart::Do(all) => Ok(IForStart::Do(tidy_all(alloc, maps, index, all.items())?)),
-        }
+/// The block, tidied.
+#[cycle(tidy_istmt)]
+fn tidy_block(
+    alloc: Global,
+    maps: &Maps,
+    index: &IndexMap<Id, Id>,
+    block: &IBlock,
+) -> Result<IBlock, OutOfMemory>
+    ensures { IfOk result (λ tidied. tidied ≡ block_by maps.now index.now.entries block.now) }
+{
+    Ok(IBlock {
+        items: tidy_stmts(alloc, maps, index, block.items.items())?,
+        tail: copy_texts(alloc, block.tail.items())?,
+    })
+}
+
+/// The statement, tidied.
+#[cycle(tidy_istmt)]
+fn tidy_statement(
+    alloc: Global,
+    maps: &Maps,
+    index: &IndexMap<Id, Id>,
+    statement: &IStmt,
+) -> Result<IStmt, OutOfMemory>
+    ensures { IfOk result (λ tidied. tidied ≡ statement_by maps.now index.now.entries statement.now) }
+{
+    Ok(IStmt {
+        notes: copy_texts(alloc, statement.notes.items())?,
+        node: tidy_node(alloc, maps, index, &statement.node)?,
+    })
+}
+
+/// What follows `else`, tidied.
+#[cycle(tidy_istmt)]
+fn tidy_else(
+    alloc: Global,
+    maps: &Maps,
+    index: &IndexMap<Id, Id>,
+    rest: &IElse,
+) -> Result<IElse, OutOfMemory>
+    ensures { IfOk result (λ tidied. tidied ≡ else_by maps.now index.now.entries rest.now) }
+{
+    match rest {
+        IElse::None => Ok(IElse::None),
+        IElse::Block(block) => Ok(IElse::Block(tidy_block(alloc, maps, index, block)?)),
+        IElse::If(branch) => Ok(IElse::If(Boxed::new(
+            alloc,
+            tidy_if(alloc, maps, index, branch.get())?,
+        )?)),
     }
 }
 
-impl IBlock {
-    /// The block, tidied.
-    #[cycle(tidy_istmt)]
-    pub(crate) fn tidied(
-        &self,
-        alloc: Global,
-        maps: &Maps,
-        index: &IndexMap<Id, Id>,
-    ) -> Result<IBlock, OutOfMemory>
-        ensures { IfOk result (λ tidied. tidied ≡ block_by maps.now index.now.entries self.now) }
-    {
-        Ok(IBlock {
-            items: tidy_stmts(alloc, maps, index, self.items.items())?,
-            tail: copy_texts(alloc, self.tail.items())?,
-        })
-    }
-}
-
-impl IStmt {
-    /// The statement, tidied.
-    #[cycle(tidy_istmt)]
-    pub(crate) fn tidied(
-        &self,
-        alloc: Global,
-        maps: &Maps,
-        index: &IndexMap<Id, Id>,
-    ) -> Result<IStmt, OutOfMemory>
-        ensures { IfOk result (λ tidied. tidied ≡ statement_by maps.now index.now.entries self.now) }
-    {
-        Ok(IStmt {
-            notes: copy_texts(alloc, self.notes.items())?,
-            node: self.node.tidied(alloc, maps, index)?,
-        })
-    }
-}
-
-impl IElse {
-    /// What follows `else`, tidied.
-    #[cycle(tidy_istmt)]
-    pub(crate) fn tidied(
-        &self,
-        alloc: Global,
-        maps: &Maps,
-        index: &IndexMap<Id, Id>,
-    ) -> Result<IElse, OutOfMemory>
-        ensures { IfOk result (λ tidied. tidied ≡ else_by maps.now index.now.entries self.now) }
-    {
-        match self {
-            IElse::None => Ok(IElse::None),
-            IElse::Block(block) => Ok(IElse::Block(block.tidied(alloc, maps, index)?)),
-            IElse::If(branch) => Ok(IElse::If(Boxed::new(
-                alloc,
-                branch.get().tidied(alloc, maps, index)?,
-            )?)),
-        }
-    }
-}
-
-impl IIf {
-    /// The `if`, tidied.
-    #[cycle(tidy_istmt)]
-    pub(crate) fn tidied(
-        &self,
-        alloc: Global,
-        maps: &Maps,
-        index: &IndexMap<Id, Id>,
-    ) -> Result<IIf, OutOfMemory>
-        ensures { IfOk result (λ tidied. tidied ≡ if_by maps.now index.now.entries self.now) }
-    {
-        let then = self.then.tidied(alloc, maps, index)?;
-        let rest = self.rest.tidied(alloc, maps, index)?;
-        branch_of(alloc, maps, index, &self.test, then, rest)
-    }
+/// The `if`, tidied.
+#[cycle(tidy_istmt)]
+fn tidy_if(
+    alloc: Global,
+    maps: &Maps,
+    index: &IndexMap<Id, Id>,
+    branch: &IIf,
+) -> Result<IIf, OutOfMemory>
+    ensures { IfOk result (λ tidied. tidied ≡ if_by maps.now index.now.entries branch.now) }
+{
+    let then = tidy_block(alloc, maps, index, &branch.then)?;
+    let rest = tidy_else(alloc, maps, index, &branch.rest)?;
+    branch_of(alloc, maps, index, &branch.test, then, rest)
 }
 
 /// An `if` of these branches, whose test is this one, tidied.
@@ -182,62 +166,60 @@ fn branch_of(
     ensures { IfOk result (λ branch. branch ≡ branch_of (expr_by maps.now index.now.entries test.now) then rest) }
 {
     Ok(IIf {
-        test: test.tidied(alloc, maps, index)?,
+        test: tidy_expr(alloc, maps, index, test)?,
         then,
         rest,
     })
 }
 
-impl IStmtNode {
-    /// A statement without its comments, tidied.
-    #[cycle(tidy_istmt)]
-    pub(crate) fn tidied(
-        &self,
-        alloc: Global,
-        maps: &Maps,
-        index: &IndexMap<Id, Id>,
-    ) -> Result<IStmtNode, OutOfMemory>
-        ensures { IfOk result (λ tidied. tidied ≡ node_by maps.now index.now.entries self.now) }
-    {
-        match self {
-            IStmtNode::Block(block) => Ok(IStmtNode::Block(block.tidied(alloc, maps, index)?)),
-            IStmtNode::Let(decl) => Ok(IStmtNode::Let(decl.tidied(alloc, maps, index)?)),
-            IStmtNode::Do(e) => Ok(IStmtNode::Do(e.tidied(alloc, maps, index)?)),
-            IStmtNode::If(branch) => Ok(IStmtNode::If(branch.tidied(alloc, maps, index)?)),
-            IStmtNode::While(e, body) => Ok(IStmtNode::While(
-                e.tidied(alloc, maps, index)?,
-                body.tidied(alloc, maps, index)?,
-            )),
-            IStmtNode::For(start, test, steps, body) => Ok(IStmtNode::For(
-                start.tidied(alloc, maps, index)?,
-                tidy_maybe(alloc, maps, index, test)?,
-                tidy_all(alloc, maps, index, steps.items())?,
-                body.tidied(alloc, maps, index)?,
-            )),
-            IStmtNode::Each(is_final, ty, name, e, body) => Ok(IStmtNode::Each(
-                *is_final,
-                ty.copy(alloc)?,
-                name.copy(alloc)?,
-                e.tidied(alloc, maps, index)?,
-                body.tidied(alloc, maps, index)?,
-            )),
-            IStmtNode::Return(e) => Ok(IStmtNode::Return(tidy_maybe(alloc, maps, index, e)?)),
-            IStmtNode::Throw(e) => Ok(IStmtNode::Throw(e.tidied(alloc, maps, index)?)),
-            IStmtNode::Break => Ok(IStmtNode::Break),
-            IStmtNode::Continue => Ok(IStmtNode::Continue),
-            IStmtNode::Empty => Ok(IStmtNode::Empty),
-            IStmtNode::Super(constructor, args) => Ok(IStmtNode::Super(
-                *constructor,
-                tidy_arguments(alloc, maps, index, constructor, args.items())?,
-            )),
-            IStmtNode::SuperDefault(class) => Ok(IStmtNode::SuperDefault(*class)),
-            IStmtNode::SuperOutside(args) => Ok(IStmtNode::SuperOutside(tidy_all(
-                alloc,
-                maps,
-                index,
-                args.items(),
-            )?)),
-        }
+/// A statement without its comments, tidied.
+#[cycle(tidy_istmt)]
+fn tidy_node(
+    alloc: Global,
+    maps: &Maps,
+    index: &IndexMap<Id, Id>,
+    node: &IStmtNode,
+) -> Result<IStmtNode, OutOfMemory>
+    ensures { IfOk result (λ tidied. tidied ≡ node_by maps.now index.now.entries node.now) }
+{
+    match node {
+        IStmtNode::Block(block) => Ok(IStmtNode::Block(tidy_block(alloc, maps, index, block)?)),
+        IStmtNode::Let(decl) => Ok(IStmtNode::Let(tidy_let(alloc, maps, index, decl)?)),
+        IStmtNode::Do(e) => Ok(IStmtNode::Do(tidy_expr(alloc, maps, index, e)?)),
+        IStmtNode::If(branch) => Ok(IStmtNode::If(tidy_if(alloc, maps, index, branch)?)),
+        IStmtNode::While(e, body) => Ok(IStmtNode::While(
+            tidy_expr(alloc, maps, index, e)?,
+            tidy_block(alloc, maps, index, body)?,
+        )),
+        IStmtNode::For(start, test, steps, body) => Ok(IStmtNode::For(
+            tidy_start(alloc, maps, index, start)?,
+            tidy_maybe(alloc, maps, index, test)?,
+            tidy_all(alloc, maps, index, steps.items())?,
+            tidy_block(alloc, maps, index, body)?,
+        )),
+        IStmtNode::Each(is_final, ty, name, e, body) => Ok(IStmtNode::Each(
+            *is_final,
+            ty.copy(alloc)?,
+            name.copy(alloc)?,
+            tidy_expr(alloc, maps, index, e)?,
+            tidy_block(alloc, maps, index, body)?,
+        )),
+        IStmtNode::Return(e) => Ok(IStmtNode::Return(tidy_maybe(alloc, maps, index, e)?)),
+        IStmtNode::Throw(e) => Ok(IStmtNode::Throw(tidy_expr(alloc, maps, index, e)?)),
+        IStmtNode::Break => Ok(IStmtNode::Break),
+        IStmtNode::Continue => Ok(IStmtNode::Continue),
+        IStmtNode::Empty => Ok(IStmtNode::Empty),
+        IStmtNode::Super(constructor, args) => Ok(IStmtNode::Super(
+            *constructor,
+            tidy_arguments(alloc, maps, index, constructor, args.items())?,
+        )),
+        IStmtNode::SuperDefault(class) => Ok(IStmtNode::SuperDefault(*class)),
+        IStmtNode::SuperOutside(args) => Ok(IStmtNode::SuperOutside(tidy_all(
+            alloc,
+            maps,
+            index,
+            args.items(),
+        )?)),
     }
 }
 
@@ -252,7 +234,7 @@ fn tidy_stmts(
 {
     let mut all = List::new(alloc);
     for item in items {
-        all.add(item.tidied(alloc, maps, index)?)?;
+        all.add(tidy_statement(alloc, maps, index, item)?)?;
     }
     Ok(all)
 }

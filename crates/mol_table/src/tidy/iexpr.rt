@@ -11,119 +11,117 @@ use indexmap::IndexMap;
 use mol_base::{Boxed, Id, List, OutOfMemory, Text};
 use std::alloc::Global;
 
-impl IExpr {
-    /// The expression, tidied. The index has the constructors that there are.
-    #[cycle(tidy_iexpr)]
-    pub(crate) fn tidied(
-        &self,
-        alloc: Global,
-        maps: &Maps,
-        index: &IndexMap<Id, Id>,
-    ) -> Result<IExpr, OutOfMemory>
-        ensures { IfOk result (λ e. e ≡ expr_by maps.now index.now.entries self.now) }
-    {
-        match self {
-            IExpr::Lit(text) => Ok(IExpr::Lit(text.copy(alloc)?)),
-            IExpr::This => Ok(IExpr::This),
-            IExpr::Local(number) => Ok(IExpr::Local(*number)),
-            IExpr::Param(id) => Ok(IExpr::Param(*id)),
-            IExpr::Own(field) => Ok(IExpr::Own(*field)),
-            IExpr::StaticField(field) => Ok(IExpr::StaticField(*field)),
-            IExpr::Field(field, e) => Ok(IExpr::Field(
-                *field,
-                tidy_boxed(alloc, maps, index, e.get())?,
-            )),
-            IExpr::Call(method, args) => Ok(IExpr::Call(
-                *method,
-                tidy_arguments(alloc, maps, index, method, args.items())?,
-            )),
-            IExpr::StaticCall(method, args) => Ok(IExpr::StaticCall(
-                *method,
-                tidy_arguments(alloc, maps, index, method, args.items())?,
-            )),
-            IExpr::CallOn(method, e, args) => Ok(IExpr::CallOn(
-                *method,
-                tidy_boxed(alloc, maps, index, e.get())?,
-                tidy_arguments(alloc, maps, index, method, args.items())?,
-            )),
-            IExpr::SuperCall(method, args) => Ok(IExpr::SuperCall(
-                *method,
-                tidy_arguments(alloc, maps, index, method, args.items())?,
-            )),
-            IExpr::New(constructor, args) => Ok(IExpr::New(
-                *constructor,
-                tidy_arguments(alloc, maps, index, constructor, args.items())?,
-            )),
-            IExpr::NewDefault(class) => Ok(creation(alloc, class, index.get(class))),
-            IExpr::Cond(test, a, b) => Ok(IExpr::Cond(
-                tidy_boxed(alloc, maps, index, test.get())?,
-                tidy_boxed(alloc, maps, index, a.get())?,
-                tidy_boxed(alloc, maps, index, b.get())?,
-            )),
-            IExpr::OutsideName(name) => Ok(IExpr::OutsideName(name.copy(alloc)?)),
-            IExpr::OutsideClass(name) => Ok(IExpr::OutsideClass(name.copy(alloc)?)),
-            IExpr::OutsideField(name, e) => Ok(IExpr::OutsideField(
-                name.copy(alloc)?,
-                tidy_boxed(alloc, maps, index, e.get())?,
-            )),
-            IExpr::OutsideCall(name, args) => Ok(IExpr::OutsideCall(
-                name.copy(alloc)?,
-                tidy_all(alloc, maps, index, args.items())?,
-            )),
-            IExpr::OutsideCallOn(name, e, args) => Ok(IExpr::OutsideCallOn(
-                name.copy(alloc)?,
-                tidy_boxed(alloc, maps, index, e.get())?,
-                tidy_all(alloc, maps, index, args.items())?,
-            )),
-            IExpr::OutsideSuperCall(name, args) => Ok(IExpr::OutsideSuperCall(
-                name.copy(alloc)?,
-                tidy_all(alloc, maps, index, args.items())?,
-            )),
-            IExpr::NewOutside(ty, args) => Ok(IExpr::NewOutside(
-                ty.copy(alloc)?,
-                tidy_all(alloc, maps, index, args.items())?,
-            )),
-            IExpr::NewArray(ty, sizes, open) => Ok(IExpr::NewArray(
-                ty.copy(alloc)?,
-                tidy_all(alloc, maps, index, sizes.items())?,
-                *open,
-            )),
-            IExpr::ArrayLit(ty, items) => Ok(IExpr::ArrayLit(
-                ty.copy(alloc)?,
-                tidy_all(alloc, maps, index, items.items())?,
-            )),
-            IExpr::Braces(items) => Ok(IExpr::Braces(tidy_all(alloc, maps, index, items.items())?)),
-            IExpr::Index(e, i) => Ok(IExpr::Index(
-                tidy_boxed(alloc, maps, index, e.get())?,
-                tidy_boxed(alloc, maps, index, i.get())?,
-            )),
-            IExpr::Unary(op, e) => Ok(IExpr::Unary(
-                op.copy(alloc)?,
-                tidy_boxed(alloc, maps, index, e.get())?,
-            )),
-            IExpr::Post(op, e) => Ok(IExpr::Post(
-                op.copy(alloc)?,
-                tidy_boxed(alloc, maps, index, e.get())?,
-            )),
-            IExpr::Binary(op, a, b) => Ok(IExpr::Binary(
-                op.copy(alloc)?,
-                tidy_boxed(alloc, maps, index, a.get())?,
-                tidy_boxed(alloc, maps, index, b.get())?,
-            )),
-            IExpr::Assign(op, a, b) => Ok(IExpr::Assign(
-                op.copy(alloc)?,
-                tidy_boxed(alloc, maps, index, a.get())?,
-                tidy_boxed(alloc, maps, index, b.get())?,
-            )),
-            IExpr::Cast(ty, e) => Ok(IExpr::Cast(
-                ty.copy(alloc)?,
-                tidy_boxed(alloc, maps, index, e.get())?,
-            )),
-            IExpr::InstanceOf(e, ty) => Ok(IExpr::InstanceOf(
-                tidy_boxed(alloc, maps, index, e.get())?,
-                ty.copy(alloc)?,
-            )),
-        }
+/// The expression, tidied. The index has the constructors that there are.
+#[cycle(tidy_iexpr)]
+pub(crate) fn tidy_expr(
+    alloc: Global,
+    maps: &Maps,
+    index: &IndexMap<Id, Id>,
+    e: &IExpr,
+) -> Result<IExpr, OutOfMemory>
+    ensures { IfOk result (λ tidied. tidied ≡ expr_by maps.now index.now.entries e.now) }
+{
+    match e {
+        IExpr::Lit(text) => Ok(IExpr::Lit(text.copy(alloc)?)),
+        IExpr::This => Ok(IExpr::This),
+        IExpr::Local(number) => Ok(IExpr::Local(*number)),
+        IExpr::Param(id) => Ok(IExpr::Param(*id)),
+        IExpr::Own(field) => Ok(IExpr::Own(*field)),
+        IExpr::StaticField(field) => Ok(IExpr::StaticField(*field)),
+        IExpr::Field(field, e) => Ok(IExpr::Field(
+            *field,
+            tidy_boxed(alloc, maps, index, e.get())?,
+        )),
+        IExpr::Call(method, args) => Ok(IExpr::Call(
+            *method,
+            tidy_arguments(alloc, maps, index, method, args.items())?,
+        )),
+        IExpr::StaticCall(method, args) => Ok(IExpr::StaticCall(
+            *method,
+            tidy_arguments(alloc, maps, index, method, args.items())?,
+        )),
+        IExpr::CallOn(method, e, args) => Ok(IExpr::CallOn(
+            *method,
+            tidy_boxed(alloc, maps, index, e.get())?,
+            tidy_arguments(alloc, maps, index, method, args.items())?,
+        )),
+        IExpr::SuperCall(method, args) => Ok(IExpr::SuperCall(
+            *method,
+            tidy_arguments(alloc, maps, index, method, args.items())?,
+        )),
+        IExpr::New(constructor, args) => Ok(IExpr::New(
+            *constructor,
+            tidy_arguments(alloc, maps, index, constructor, args.items())?,
+        )),
+        IExpr::NewDefault(class) => Ok(creation(alloc, class, index.get(class))),
+        IExpr::Cond(test, a, b) => Ok(IExpr::Cond(
+            tidy_boxed(alloc, maps, index, test.get())?,
+            tidy_boxed(alloc, maps, index, a.get())?,
+            tidy_boxed(alloc, maps, index, b.get())?,
+        )),
+        IExpr::OutsideName(name) => Ok(IExpr::OutsideName(name.copy(alloc)?)),
+        IExpr::OutsideClass(name) => Ok(IExpr::OutsideClass(name.copy(alloc)?)),
+        IExpr::OutsideField(name, e) => Ok(IExpr::OutsideField(
+            name.copy(alloc)?,
+            tidy_boxed(alloc, maps, index, e.get())?,
+        )),
+        IExpr::OutsideCall(name, args) => Ok(IExpr::OutsideCall(
+            name.copy(alloc)?,
+            tidy_all(alloc, maps, index, args.items())?,
+        )),
+        IExpr::OutsideCallOn(name, e, args) => Ok(IExpr::OutsideCallOn(
+            name.copy(alloc)?,
+            tidy_boxed(alloc, maps, index, e.get())?,
+            tidy_all(alloc, maps, index, args.items())?,
+        )),
+        IExpr::OutsideSuperCall(name, args) => Ok(IExpr::OutsideSuperCall(
+            name.copy(alloc)?,
+            tidy_all(alloc, maps, index, args.items())?,
+        )),
+        IExpr::NewOutside(ty, args) => Ok(IExpr::NewOutside(
+            ty.copy(alloc)?,
+            tidy_all(alloc, maps, index, args.items())?,
+        )),
+        IExpr::NewArray(ty, sizes, open) => Ok(IExpr::NewArray(
+            ty.copy(alloc)?,
+            tidy_all(alloc, maps, index, sizes.items())?,
+            *open,
+        )),
+        IExpr::ArrayLit(ty, items) => Ok(IExpr::ArrayLit(
+            ty.copy(alloc)?,
+            tidy_all(alloc, maps, index, items.items())?,
+        )),
+        IExpr::Braces(items) => Ok(IExpr::Braces(tidy_all(alloc, maps, index, items.items())?)),
+        IExpr::Index(e, i) => Ok(IExpr::Index(
+            tidy_boxed(alloc, maps, index, e.get())?,
+            tidy_boxed(alloc, maps, index, i.get())?,
+        )),
+        IExpr::Unary(op, e) => Ok(IExpr::Unary(
+            op.copy(alloc)?,
+            tidy_boxed(alloc, maps, index, e.get())?,
+        )),
+        IExpr::Post(op, e) => Ok(IExpr::Post(
+            op.copy(alloc)?,
+            tidy_boxed(alloc, maps, index, e.get())?,
+        )),
+        IExpr::Binary(op, a, b) => Ok(IExpr::Binary(
+            op.copy(alloc)?,
+            tidy_boxed(alloc, maps, index, a.get())?,
+            tidy_boxed(alloc, maps, index, b.get())?,
+        )),
+        IExpr::Assign(op, a, b) => Ok(IExpr::Assign(
+            op.copy(alloc)?,
+            tidy_boxed(alloc, maps, index, a.get())?,
+            tidy_boxed(alloc, maps, index, b.get())?,
+        )),
+        IExpr::Cast(ty, e) => Ok(IExpr::Cast(
+            ty.copy(alloc)?,
+            tidy_boxed(alloc, maps, index, e.get())?,
+        )),
+        IExpr::InstanceOf(e, ty) => Ok(IExpr::InstanceOf(
+            tidy_boxed(alloc, maps, index, e.get())?,
+            ty.copy(alloc)?,
+        )),
     }
 }
 
@@ -137,7 +135,7 @@ fn tidy_boxed(
 ) -> Result<Boxed<IExpr>, OutOfMemory>
     ensures { IfOk result (λ boxed. boxed ≡ expr_by maps.now index.now.entries e.now) }
 {
-    Boxed::new(alloc, e.tidied(alloc, maps, index)?)
+    Boxed::new(alloc, tidy_expr(alloc, maps, index, e)?)
 }
 
 /// Each of the expressions, tidied.
@@ -152,7 +150,7 @@ pub(crate) fn tidy_all(
 {
     let mut all = List::new(alloc);
     for item in items {
-        all.add(item.tidied(alloc, maps, index)?)?;
+        all.add(tidy_expr(alloc, maps, index, item)?)?;
     }
     Ok(all)
 }
@@ -192,7 +190,7 @@ fn value_for(
 {
     for arg in args {
         if param.id == arg.param {
-            return arg.value.tidied(alloc, maps, index);
+            return tidy_expr(alloc, maps, index, &arg.value);
         }
     }
     filler_expr(alloc, &param.filler)
@@ -231,7 +229,7 @@ pub(crate) fn tidy_maybe(
     ensures { IfOk result (λ o. o ≡ option_map (expr_by maps.now index.now.entries) e.now) }
 {
     match e {
-        Some(e) => Ok(Some(e.tidied(alloc, maps, index)?)),
+        Some(e) => Ok(Some(tidy_expr(alloc, maps, index, e)?)),
         None => Ok(None),
     }
 }

@@ -3,14 +3,14 @@ ghost use Rattle.std.specs.Prelude.{◌≡◌, IfOk, option_map};
 ghost use Rattle.mol_table.specs.Tidying.{body_by, value_by};
 
 use crate::maps::Maps;
-use crate::tidy::tidy_maybe;
+use crate::tidy::{tidy_body, tidy_maybe};
 use crate::{IBody, Value};
 use indexmap::IndexMap;
 use mol_base::{Id, OutOfMemory};
 use std::alloc::Global;
 
 /// The body there is, tidied.
-fn tidy_body(
+fn tidy_own_body(
     alloc: Global,
     maps: &Maps,
     index: &IndexMap<Id, Id>,
@@ -19,28 +19,26 @@ fn tidy_body(
     ensures { IfOk result (λ o. o ≡ option_map (body_by maps.now index.now.entries) body.now) }
 {
     match body {
-        Some(body) => Ok(Some(body.tidied(alloc, maps, index)?)),
+        Some(body) => Ok(Some(tidy_body(alloc, maps, index, body)?)),
         None => Ok(None),
     }
 }
 
-impl Value {
-    /// The value, tidied. Only a body and the first value of a field hold calls.
-    pub(crate) fn tidied(
-        &self,
-        alloc: Global,
-        maps: &Maps,
-        index: &IndexMap<Id, Id>,
-    ) -> Result<Value, OutOfMemory>
-        ensures { IfOk result (λ tidied. tidied ≡ value_by maps.now index.now.entries self.now) }
-    {
-        match self {
-            Value::Body(body) => Ok(Value::Body(tidy_body(alloc, maps, index, body)?)),
-            Value::Value(ty, init) => Ok(Value::Value(
-                ty.copy(alloc)?,
-                tidy_maybe(alloc, maps, index, init)?,
-            )),
-            _ => self.copy(alloc),
-        }
+/// The value, tidied. Only a body and the first value of a field hold calls.
+pub(crate) fn tidy_value(
+    alloc: Global,
+    maps: &Maps,
+    index: &IndexMap<Id, Id>,
+    value: &Value,
+) -> Result<Value, OutOfMemory>
+    ensures { IfOk result (λ tidied. tidied ≡ value_by maps.now index.now.entries value.now) }
+{
+    match value {
+        Value::Body(body) => Ok(Value::Body(tidy_own_body(alloc, maps, index, body)?)),
+        Value::Value(ty, init) => Ok(Value::Value(
+            ty.copy(alloc)?,
+            tidy_maybe(alloc, maps, index, init)?,
+        )),
+        _ => value.copy(alloc),
     }
 }

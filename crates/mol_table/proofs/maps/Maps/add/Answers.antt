@@ -1,9 +1,7 @@
-use Rattle.std.proofs.Common.{◌≡◌, ◌∙◌, sym, subst, arith, List}
-use mathlib.Core.Logic.{inr}
+use Rattle.std.proofs.Common.{◌≡◌, ◌∙◌, sym, subst, arith}
 use Rattle.std.specs.List.Sorted.{IsSorted}
 use Rattle.mol_base.specs.Order.{id_cmp}
 use Rattle.mol_table.specs.Maps.{program_in, cells_of, knowns_of}
-use Rattle.mol_table.specs.Program.{Program}
 use Rattle.mol_table.specs.Rules.{IsProgram}
 use Rattle.mol_table.specs.Writes.{with_entities}
 use Rattle.mol_table.proofs.Changing.{are-apart, arranged-program, stands-arranged}

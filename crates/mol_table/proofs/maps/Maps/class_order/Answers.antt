@@ -4,7 +4,7 @@ use Rattle.std.specs.Prelude.{List, Result, Ok, Err, IfOk}
 use Rattle.mol_base.specs.declared.ident.Id.{Id}
 use Rattle.mol_table.specs.Counting.{passing}
 use Rattle.mol_table.specs.Maps.{program_in}
-use Rattle.mol_table.specs.Renaming.{IsInOrder}
+use Rattle.mol_table.specs.Numbering.{IsInOrder}
 use Rattle.mol_table.specs.Renumber.{is_living_class, class_number}
 use Rattle.mol_table.specs.declared.renumber.classes.ClassFile.{ClassFile}
 use Rattle.mol_table.proofs.Orders.{classes-in-order}

@@ -1,6 +1,6 @@
 use Rattle.std.proofs.Common.{◌∙◌, sym, ap}
 use Rattle.mol_table.specs.Counting.{is_of}
-use Rattle.mol_table.proofs.Ties.{id_ties}
+use Rattle.mol_values.proofs.Ties.{id_ties}
 use Rattle.mol_table.proofs.maps.Maps.declares.Goals as goal
 
 pub returns-in-Some : goal.returns-in-Some

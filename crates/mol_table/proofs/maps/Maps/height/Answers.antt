@@ -3,11 +3,11 @@ use Rattle.std.specs.FinMap.{get, get-insert}
 use Rattle.mol_base.specs.Order.{id_cmp, id_cmp-total, id_cmp-IsAntisymmetric}
 use Rattle.mol_table.specs.Heights.{upward}
 use Rattle.mol_table.specs.Maps.{counts_of, program_in}
-use Rattle.mol_table.specs.Order.{id_eq}
+use Rattle.mol_values.specs.Order.{id_eq}
 use Rattle.mol_table.specs.Tops.{Ends, height_in, height_at, IsWay, Leads}
 use Rattle.mol_table.proofs.HeightsFound.{leads-ends, leads-height, height-at-few, heights-more, held, step}
-use Rattle.mol_table.proofs.Lookups.{inserted}
-use Rattle.mol_table.proofs.Ties.{id_ties}
+use Rattle.mol_values.proofs.Lookups.{inserted}
+use Rattle.mol_values.proofs.Ties.{id_ties}
 use Rattle.mol_table.proofs.TopsFound.{ends-up}
 use Rattle.mol_table.proofs.Writing.{drop-item}
 use Rattle.mol_table.proofs.maps.Maps.height.Goals as goal

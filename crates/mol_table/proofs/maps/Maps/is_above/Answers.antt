@@ -4,7 +4,7 @@ use Rattle.mol_base.specs.declared.ident.Id.{Id}
 use Rattle.mol_table.specs.Faults.{is_above}
 use Rattle.mol_table.specs.Maps.{program_in}
 use Rattle.mol_table.specs.Program.{same_id, owner_at}
-use Rattle.mol_table.proofs.Ties.{any_tied}
+use Rattle.mol_values.proofs.Ties.{any_tied}
 use Rattle.mol_table.proofs.maps.Maps.is_above.Goals as goal
 
 pub returns-in_default : goal.returns-in_default

@@ -1,8 +1,8 @@
 use Rattle.std.proofs.Common.{◌∙◌, ap}
 use Rattle.std.specs.List.{list_any}
 use Rattle.mol_table.specs.Program.{same_id}
-use Rattle.mol_table.specs.declared.param.Param.{Param}
-use Rattle.mol_table.proofs.Ties.{any_tied}
+use Rattle.mol_values.specs.declared.param.Param.{Param}
+use Rattle.mol_values.proofs.Ties.{any_tied}
 use Rattle.mol_table.proofs.maps.Maps.lists.Goals as goal
 
 pub returns : goal.returns

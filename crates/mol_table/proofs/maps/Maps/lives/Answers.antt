@@ -4,7 +4,7 @@ use Rattle.std.specs.FinMap.{get}
 use Rattle.std.proofs.lemmas.Bool.{ne_eqb}
 use Rattle.mol_table.specs.Life.{lives_as, lives_method, lists}
 use Rattle.mol_table.specs.Maps.{program_in}
-use Rattle.mol_table.specs.declared.known.Known.TheVariants as knowns
+use Rattle.mol_values.specs.declared.known.Known.TheVariants as knowns
 use Rattle.mol_table.proofs.Counts.{any-passing}
 use Rattle.mol_table.proofs.maps.Maps.lives.Goals as goal
 

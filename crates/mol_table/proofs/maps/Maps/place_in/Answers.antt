@@ -2,10 +2,10 @@ use Rattle.std.proofs.Common.{◌≡◌, ◌∙◌, sym, ap, Bool}
 use Rattle.std.specs.Prelude.{List, unwrap_or}
 use Rattle.std.specs.List.{position}
 use Rattle.mol_base.specs.declared.ident.Id.{Id}
-use Rattle.mol_table.specs.Order.{id_eq}
+use Rattle.mol_values.specs.Order.{id_eq}
 use Rattle.mol_table.specs.Program.{same_id}
-use Rattle.mol_table.specs.declared.param.Param.{Param}
-use Rattle.mol_table.proofs.Ties.{id_ties}
+use Rattle.mol_values.specs.declared.param.Param.{Param}
+use Rattle.mol_values.proofs.Ties.{id_ties}
 use Rattle.mol_table.proofs.maps.Maps.place_in.Goals as goal
 
 -- the place of a parameter, by both tests

@@ -5,7 +5,7 @@ use Rattle.std.specs.Prelude.{List, Result, Ok, Err, IfOk}
 use Rattle.mol_table.specs.Counting.{passing}
 use Rattle.mol_table.specs.Life.{lives}
 use Rattle.mol_table.specs.Maps.{program_in}
-use Rattle.mol_table.specs.Renaming.{AreApart, AreNames, IsInOrder}
+use Rattle.mol_table.specs.Numbering.{AreApart, AreNames, IsInOrder}
 use Rattle.mol_table.specs.Renumber.{is_living_class, class_number, number}
 use Rattle.mol_table.specs.declared.renumber.rank.Rank.{Rank}
 use Rattle.mol_table.proofs.Collected.{order-apart}

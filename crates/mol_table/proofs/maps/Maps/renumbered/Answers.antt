@@ -9,7 +9,7 @@ use Rattle.mol_table.specs.Maps.{cells_of, knowns_of, program_in, counts_in}
 use Rattle.mol_table.specs.Program.{Program}
 use Rattle.mol_table.specs.Renumber.{number, renumber}
 use Rattle.mol_table.specs.Rules.{IsProgram}
-use Rattle.mol_table.specs.Renaming.{AreApart, AreNames}
+use Rattle.mol_table.specs.Numbering.{AreApart, AreNames}
 use Rattle.mol_table.proofs.Collected.{order-apart, has-names}
 use Rattle.mol_table.proofs.RenumberRules.{renumber-IsProgram, renumber-Counted}
 use Rattle.mol_table.proofs.maps.Maps.renumbered.Goals as goal

@@ -5,12 +5,12 @@ use Rattle.std.specs.Prelude.{option_map}
 use Rattle.indexmap.specs.IndexMap.{keys}
 use Rattle.mol_base.specs.Order.{id_cmp, id_cmp-total, id_cmp-IsAntisymmetric}
 use Rattle.mol_table.specs.Maps.{program_in}
-use Rattle.mol_table.specs.Order.{id_eq}
+use Rattle.mol_values.specs.Order.{id_eq}
 use Rattle.mol_table.specs.Tops.{tops_of, top_in}
 use Rattle.mol_table.specs.declared.renumber.top.Top.{Top}
 use Rattle.mol_table.proofs.Copying.{take-item}
-use Rattle.mol_table.proofs.Lookups.{inserted}
-use Rattle.mol_table.proofs.Ties.{id_ties}
+use Rattle.mol_values.proofs.Lookups.{inserted}
+use Rattle.mol_values.proofs.Ties.{id_ties}
 use Rattle.mol_table.proofs.TopsSearched.{AreSearched, searched-none, searched-same, searched-put, searched-bare, searched-all}
 use Rattle.mol_table.proofs.maps.Maps.tops_by_search.Goals.{in-Some+in_ok-decl+in-Some-2+in_ok-insert, in-Some+in_ok-decl+in_default-2, in_default}
 use Rattle.mol_table.proofs.maps.Maps.tops_by_search.Goals as goal

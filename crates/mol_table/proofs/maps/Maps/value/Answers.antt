@@ -1,8 +1,8 @@
 use Rattle.std.proofs.Common.{◌∙◌}
-use Rattle.mol_table.specs.Order.{cell_cmp}
+use Rattle.mol_values.specs.Order.{cell_cmp}
 use Rattle.mol_table.proofs.CellOrder.{cell_cmp-total}
-use Rattle.mol_table.proofs.Lookups.{get_is}
-use Rattle.mol_table.proofs.Ties.{cell_eq, cell_ties}
+use Rattle.mol_values.proofs.Lookups.{get_is}
+use Rattle.mol_values.proofs.Ties.{cell_eq, cell_ties}
 use Rattle.mol_table.proofs.maps.Maps.value.Goals as goal
 
 pub returns : goal.returns

@@ -3,11 +3,11 @@ use Rattle.std.specs.FinMap.{get}
 use Rattle.mol_base.specs.Order.{id_cmp, id_cmp-total}
 use Rattle.mol_table.specs.Heights.{upward}
 use Rattle.mol_table.specs.Maps.{counts_of, program_in}
-use Rattle.mol_table.specs.Order.{id_eq}
+use Rattle.mol_values.specs.Order.{id_eq}
 use Rattle.mol_table.specs.Tops.{Leads}
 use Rattle.mol_table.proofs.HeightsFound.{leads-push, none-ends}
-use Rattle.mol_table.proofs.Lookups.{get_is}
-use Rattle.mol_table.proofs.Ties.{id_ties}
+use Rattle.mol_values.proofs.Lookups.{get_is}
+use Rattle.mol_values.proofs.Ties.{id_ties}
 use Rattle.mol_table.proofs.maps.Maps.way_up.Goals as goal
 
 pub loop-init : goal.loop-init

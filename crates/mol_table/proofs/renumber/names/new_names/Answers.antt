@@ -2,13 +2,13 @@ use Rattle.std.proofs.Common.{◌≡◌, ◌+◌, ◌∙◌, refl, ap, Some, con
 use Rattle.std.specs.FinMap.{get, get-empty, get-insert}
 use Rattle.mol_base.specs.Order.{id_cmp, id_cmp-total, id_cmp-IsAntisymmetric}
 use Rattle.mol_base.specs.declared.ident.Id.{Id}
-use Rattle.mol_table.specs.Order.{id_eq}
+use Rattle.mol_values.specs.Order.{id_eq}
 use Rattle.mol_table.specs.Program.{same_id}
-use Rattle.mol_table.specs.Renaming.{names_of}
+use Rattle.mol_values.specs.Renaming.{names_of}
 use Rattle.mol_table.specs.Renumber.{base_id}
 use Rattle.mol_table.proofs.Collected.{named-none, named-more, named-all}
-use Rattle.mol_table.proofs.Lookups.{inserted}
-use Rattle.mol_table.proofs.Ties.{id_ties}
+use Rattle.mol_values.proofs.Lookups.{inserted}
+use Rattle.mol_values.proofs.Ties.{id_ties}
 use Rattle.mol_table.proofs.renumber.names.new_names.Goals as goal
 
 pub loop-id-init : goal.loop-id-init

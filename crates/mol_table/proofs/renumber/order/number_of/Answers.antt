@@ -1,10 +1,10 @@
 use Rattle.std.proofs.Common.{◌≡◌, ◌∙◌, sym, ap, option_copied}
 use Rattle.std.specs.FinMap.{get}
 use Rattle.mol_base.specs.Order.{id_cmp, id_cmp-total}
-use Rattle.mol_table.specs.Order.{id_eq}
-use Rattle.mol_table.specs.Renaming.{names_of, number_of}
-use Rattle.mol_table.proofs.Lookups.{get_is}
-use Rattle.mol_table.proofs.Ties.{id_ties}
+use Rattle.mol_values.specs.Order.{id_eq}
+use Rattle.mol_values.specs.Renaming.{names_of, number_of}
+use Rattle.mol_values.proofs.Lookups.{get_is}
+use Rattle.mol_values.proofs.Ties.{id_ties}
 use Rattle.mol_table.proofs.renumber.order.number_of.Goals as goal
 
 pub returns-in-Some : goal.returns-in-Some

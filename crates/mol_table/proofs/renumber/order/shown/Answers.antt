@@ -2,11 +2,11 @@ use Rattle.std.proofs.Common.{◌≡◌, ◌∙◌, sym, ap, option_copied, opti
 use Rattle.std.specs.Prelude.{unwrap_or}
 use Rattle.std.specs.FinMap.{get}
 use Rattle.mol_base.specs.Order.{id_cmp, id_cmp-total}
-use Rattle.mol_table.specs.Order.{id_eq}
+use Rattle.mol_values.specs.Order.{id_eq}
 use Rattle.mol_table.specs.Tops.{tops_of}
 use Rattle.mol_table.specs.declared.renumber.top.Top.{Top}
-use Rattle.mol_table.proofs.Lookups.{get_is}
-use Rattle.mol_table.proofs.Ties.{id_ties}
+use Rattle.mol_values.proofs.Lookups.{get_is}
+use Rattle.mol_values.proofs.Ties.{id_ties}
 use Rattle.mol_table.proofs.renumber.order.shown.Goals as goal
 
 pub returns-in-Some : goal.returns-in-Some

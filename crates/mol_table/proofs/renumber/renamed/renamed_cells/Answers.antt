@@ -7,14 +7,14 @@ use Rattle.std.proofs.Common.{is_some}
 use Rattle.std.specs.FinMap.{get-from_entries}
 use Rattle.std.specs.FinMap.Entries.{is_some-find}
 use Rattle.mol_table.specs.Maps.{cells_of, program_in}
-use Rattle.mol_table.specs.Order.{id_eq, cell_cmp}
+use Rattle.mol_values.specs.Order.{id_eq, cell_cmp}
 use Rattle.mol_table.proofs.CellOrder.{cell_cmp-total, cell_cmp-IsAntisymmetric}
 use Rattle.mol_table.specs.Program.{cell}
-use Rattle.mol_table.specs.Renaming.{names_of}
+use Rattle.mol_values.specs.Renaming.{names_of}
 use Rattle.mol_table.proofs.Copying.{take-item}
-use Rattle.mol_table.proofs.Lookups.{inserted, get_is}
+use Rattle.mol_values.proofs.Lookups.{inserted, get_is}
 use Rattle.mol_table.proofs.Renumbering.{CellsTaken, cell-more, cell-dead, cell-absent, cells-none, cells-all}
-use Rattle.mol_table.proofs.Ties.{cell_eq, cell_ties, id_ties}
+use Rattle.mol_values.proofs.Ties.{cell_eq, cell_ties, id_ties}
 use Rattle.mol_table.proofs.renumber.renamed.renamed_cells.Goals.{in-Some+in-Some-get+in_ok-renamed+in_ok-insert, in-Some+in_default-get, in_default}
 use Rattle.mol_table.proofs.renumber.renamed.renamed_cells.Goals as goal
 

@@ -4,12 +4,12 @@ use Rattle.std.specs.FinMap.{get, get-empty, get-insert, insert}
 use Rattle.mol_base.specs.Order.{id_cmp, id_cmp-total, id_cmp-IsAntisymmetric}
 use Rattle.std.proofs.Common.{arith}
 use Rattle.mol_table.specs.Maps.{knowns_of, program_in, AreOrdered}
-use Rattle.mol_table.specs.Order.{id_eq}
-use Rattle.mol_table.specs.Renaming.{names_of}
+use Rattle.mol_values.specs.Order.{id_eq}
+use Rattle.mol_values.specs.Renaming.{names_of}
 use Rattle.mol_table.proofs.Copying.{take-item}
-use Rattle.mol_table.proofs.Lookups.{inserted, get_is}
+use Rattle.mol_values.proofs.Lookups.{inserted, get_is}
 use Rattle.mol_table.proofs.Renumbering.{KnownTaken, known-more, known-dead, known-absent, known-none, known-all}
-use Rattle.mol_table.proofs.Ties.{id_ties}
+use Rattle.mol_values.proofs.Ties.{id_ties}
 use Rattle.mol_table.proofs.renumber.renamed.renamed_known.Goals.{in-Some+in-Some-get+in_ok-insert_sorted, in-Some+in_default-get, in_default}
 use Rattle.mol_table.proofs.renumber.renamed.renamed_known.Goals as goal
 

@@ -4,13 +4,13 @@ use Rattle.std.specs.FinMap.{get, get-empty, get-insert, insert}
 use Rattle.indexmap.specs.IndexMap.{keys}
 use Rattle.mol_base.specs.Order.{id_cmp, id_cmp-total, id_cmp-IsAntisymmetric}
 use Rattle.mol_table.specs.Maps.{counts_of, counts_in, program_in}
-use Rattle.mol_table.specs.Order.{id_eq}
-use Rattle.mol_table.specs.Renaming.{names_of}
+use Rattle.mol_values.specs.Order.{id_eq}
+use Rattle.mol_values.specs.Renaming.{names_of}
 use Rattle.mol_table.proofs.Copying.{take-item}
-use Rattle.mol_table.proofs.Lookups.{inserted, get_is}
+use Rattle.mol_values.proofs.Lookups.{inserted, get_is}
 use Rattle.mol_table.proofs.Programs.{keys-known}
 use Rattle.mol_table.proofs.Renumbering.{CountsTaken, count-more, count-dead, count-absent, counts-none, counts-all}
-use Rattle.mol_table.proofs.Ties.{id_ties}
+use Rattle.mol_values.proofs.Ties.{id_ties}
 use Rattle.mol_table.proofs.renumber.renamed.renamed_numbers.Goals.{in-Some+in-Some-get+in_ok-insert, in-Some+in_default-get, in_default}
 use Rattle.mol_table.proofs.renumber.renamed.renamed_numbers.Goals as goal
 

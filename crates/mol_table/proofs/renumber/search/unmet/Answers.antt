@@ -1,7 +1,7 @@
 use Rattle.std.proofs.Common.{◌∙◌, sym, ap, Some, None, cond}
 use Rattle.mol_base.specs.declared.ident.Id.{Id}
 use Rattle.mol_table.specs.Ancestors.{unmet}
-use Rattle.mol_table.proofs.Ties.{any_tied}
+use Rattle.mol_values.proofs.Ties.{any_tied}
 use Rattle.mol_table.proofs.renumber.search.unmet.Goals as goal
 
 pub returns-then-is_met : goal.returns-then-is_met

@@ -1,11 +1,11 @@
 use Rattle.std.proofs.Common.{◌≡◌, ◌∙◌, sym, ap, Some, cond, option_copied}
 use Rattle.std.specs.FinMap.{get, get-insert}
 use Rattle.mol_base.specs.Order.{id_cmp, id_cmp-total, id_cmp-IsAntisymmetric}
-use Rattle.mol_table.specs.Order.{id_eq}
+use Rattle.mol_values.specs.Order.{id_eq}
 use Rattle.mol_table.specs.Program.{same_id}
 use Rattle.mol_table.specs.Tops.{tops_of, upper}
-use Rattle.mol_table.proofs.Lookups.{inserted, get_is}
-use Rattle.mol_table.proofs.Ties.{id_ties}
+use Rattle.mol_values.proofs.Lookups.{inserted, get_is}
+use Rattle.mol_values.proofs.Ties.{id_ties}
 use Rattle.mol_table.proofs.renumber.top.put_top.Goals.{in-Some, in-None}
 use Rattle.mol_table.proofs.renumber.top.put_top.Goals as goal
 

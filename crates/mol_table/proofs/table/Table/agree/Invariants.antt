@@ -1,6 +1,6 @@
 use Rattle.std.proofs.Common.{ℕ, ◌<◌, get_or}
 use Rattle.mol_table.specs.Agreement.{AgreeAt}
-use Rattle.mol_table.specs.declared.cell.Slot.{Slot}
+use Rattle.mol_values.specs.declared.cell.Slot.{Slot}
 use Rattle.mol_table.proofs.table.Table.agree.Given as goal
 
 abbrev pub invariant-loop-slot : goal.invariant-loop-slot

@@ -3,7 +3,7 @@ use Rattle.std.specs.List.{IsDistinct}
 use Rattle.indexmap.specs.IndexMap.{keys}
 use Rattle.mol_table.specs.Identities.{IsAscending, AreKnown}
 use Rattle.mol_table.proofs.Programs.{ascending, contains-known}
-use Rattle.mol_table.proofs.Ties.{id_ties}
+use Rattle.mol_values.proofs.Ties.{id_ties}
 use Rattle.mol_table.proofs.table.Table.ids.Goals as goal
 
 pub returns-clause-ascending : goal.returns-clause-ascending

@@ -1,0 +1,3 @@
+pub mod ExampleHeights
+pub mod MeasuredExpressions
+pub mod PrintedStatements

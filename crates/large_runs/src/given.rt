@@ -1,0 +1,186 @@
+//! What a run is given: its words, and the files that are there.
+use mol_base::{File, List, OutOfMemory, Text};
+use std::alloc::Global;
+
+/// The first lines of logs over the classes `k.Cart` and `k.Desk`. `sha256sum` made the digest from their files.
+const ANN: &str =
+    "{\"base\":\"e8b4cd0ca3554c04d75db2796bd71447ab807d368e449b70da16d906e5f7d3fa\",\"format\":1,\"tags\":[\"ann\"]}\n";
+
+const BOB: &str =
+    "{\"base\":\"e8b4cd0ca3554c04d75db2796bd71447ab807d368e449b70da16d906e5f7d3fa\",\"format\":1,\"tags\":[\"bob\"]}\n";
+
+const MERGE: &str = "merge B L1 L2 O";
+
+const FMT: &str = "fmt B O";
+
+/// The words of a run, the files that are there before it, by their paths, and how many writes come before it.
+#[derive(Drop)]
+pub struct Inputs {
+    pub words: &'static str,
+    pub files: List<File>,
+    pub writes: u32,
+}
+
+impl Inputs {
+    /// Two classes, a log with so many renames of the first one, and a log without entries.
+    pub fn of_entries(alloc: Global, count: u32) -> Result<Inputs, OutOfMemory> {
+        let mut log = String::from_str(alloc, ANN)?;
+        for number in 1..=count {
+            let line = format!(in alloc;
+                "{{\"at\":\"ann@{number}\",\"class\":\":1\",\"name\":\"A\",\"op\":\"rename-class\"}}\n"
+            )?;
+            log.push_str(line.as_str())?;
+        }
+        let mut files = List::new(alloc);
+        files.add(file(alloc, "B/k/Cart.java", "package k;\n\nclass Cart {\n}\n")?)?;
+        files.add(file(alloc, "B/k/Desk.java", "package k;\n\nclass Desk {\n}\n")?)?;
+        files.add(file(alloc, "L1", log.as_str())?)?;
+        files.add(file(alloc, "L2", BOB)?)?;
+        Ok(Inputs {
+            words: MERGE,
+            files,
+            writes: 0,
+        })
+    }
+
+    /// A base of so many files of one text, and no logs. The words are those of a merge or of `fmt`.
+    fn of_texts(
+        alloc: Global,
+        words: &'static str,
+        count: u32,
+        text: &str,
+    ) -> Result<Inputs, OutOfMemory> {
+        let mut files = List::new(alloc);
+        for number in 0..count {
+            let path = format!(in alloc; "B/k/C{number}.java")?;
+            files.add(file(alloc, path.as_str(), text)?)?;
+        }
+        Ok(Inputs {
+            words,
+            files,
+            writes: 0,
+        })
+    }
+
+    /// A merge over so many empty files.
+    pub fn of_files(alloc: Global, count: u32) -> Result<Inputs, OutOfMemory> {
+        Inputs::of_texts(alloc, MERGE, count, "")
+    }
+
+    /// So many sources of one class each.
+    pub fn of_sources(alloc: Global, count: u32) -> Result<Inputs, OutOfMemory> {
+        Inputs::of_texts(alloc, FMT, count, "package k; class C {}")
+    }
+
+    /// The most sources that there may be, after so many writes.
+    pub fn after_writes(alloc: Global, count: u32) -> Result<Inputs, OutOfMemory> {
+        let sources = Inputs::of_sources(alloc, 4_096)?;
+        Ok(Inputs {
+            writes: count,
+            ..sources
+        })
+    }
+
+    /// One source of this many bytes.
+    pub fn of_bytes(alloc: Global, count: u32) -> Result<Inputs, OutOfMemory> {
+        let text = padded(alloc, count)?;
+        Inputs::of_texts(alloc, FMT, 1, text.as_str())
+    }
+
+    /// Sources of so many bytes together: fifteen of a mebibyte, one of a million, and one with the rest.
+    pub fn of_bytes_together(alloc: Global, count: u32) -> Result<Inputs, OutOfMemory> {
+        let text = padded(alloc, 1_048_576)?;
+        let mut sources = Inputs::of_texts(alloc, FMT, 15, text.as_str())?;
+        let text = padded(alloc, 1_000_000)?;
+        sources
+            .files
+            .add(file(alloc, "B/k/D.java", text.as_str())?)?;
+        let text = padded(alloc, count.saturating_sub(16_728_640))?;
+        sources
+            .files
+            .add(file(alloc, "B/k/E.java", text.as_str())?)?;
+        Ok(sources)
+    }
+
+    /// So many sources, each with 80,000 fields, whose texts in the one layout are twice as long.
+    pub fn of_long_texts(alloc: Global, count: u32) -> Result<Inputs, OutOfMemory> {
+        let text = repeated(alloc, "package k;class C{", "int a;", 80_000, "}")?;
+        Inputs::of_texts(alloc, FMT, count, text.as_str())
+    }
+
+    /// One source with so many fields.
+    pub fn of_fields(alloc: Global, count: u32) -> Result<Inputs, OutOfMemory> {
+        let text = repeated(alloc, "package k;class C{", "int a;", count, "}")?;
+        Inputs::of_texts(alloc, FMT, 1, text.as_str())
+    }
+
+    /// A class with a name of so many letters.
+    pub fn of_name(alloc: Global, count: u32) -> Result<Inputs, OutOfMemory> {
+        let text = repeated(alloc, "package k;class ", "C", count, "{}")?;
+        Inputs::of_texts(alloc, FMT, 1, text.as_str())
+    }
+
+    /// A field whose value stands in so many pairs of parentheses.
+    pub fn of_pairs(alloc: Global, count: u32) -> Result<Inputs, OutOfMemory> {
+        let open = repeated(alloc, "package k;class C{int a=", "(", count, "1")?;
+        let text = repeated(alloc, open.as_str(), ")", count, ";}")?;
+        Inputs::of_texts(alloc, FMT, 1, text.as_str())
+    }
+
+    /// A call with so many arguments, and one more.
+    pub fn of_arguments(alloc: Global, count: u32) -> Result<Inputs, OutOfMemory> {
+        let text = repeated(alloc, "package k;class C{int a=f(", "1,", count, "1);}")?;
+        Inputs::of_texts(alloc, FMT, 1, text.as_str())
+    }
+
+    /// A source with this byte in a comment.
+    pub fn of_byte(alloc: Global, byte: u32) -> Result<Inputs, OutOfMemory> {
+        let mut bytes = List::from_slice(alloc, b"package k;\nclass C {}\n// ")?;
+        bytes.add((byte % 256) as u8)?;
+        let mut files = List::new(alloc);
+        files.add(File {
+            path: Text::from_str(alloc, "B/k/C.java")?,
+            bytes,
+        })?;
+        Ok(Inputs {
+            words: FMT,
+            files,
+            writes: 0,
+        })
+    }
+}
+
+/// A text: its front, a piece so many times, and its back.
+fn repeated(
+    alloc: Global,
+    front: &str,
+    piece: &str,
+    count: u32,
+    back: &str,
+) -> Result<String, OutOfMemory> {
+    let mut text = String::from_str(alloc, front)?;
+    for _number in 0..count {
+        text.push_str(piece)?;
+    }
+    text.push_str(back)?;
+    Ok(text)
+}
+
+/// A source of one class and of so many bytes, if that is enough for it.
+fn padded(alloc: Global, count: u32) -> Result<String, OutOfMemory> {
+    repeated(
+        alloc,
+        "package k;class C{}",
+        " ",
+        count.saturating_sub(19),
+        "",
+    )
+}
+
+/// The file of this path and text.
+pub fn file(alloc: Global, path: &str, text: &str) -> Result<File, OutOfMemory> {
+    Ok(File {
+        path: Text::from_str(alloc, path)?,
+        bytes: List::from_slice(alloc, text.as_bytes())?,
+    })
+}

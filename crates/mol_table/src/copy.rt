@@ -1,9 +1,0 @@
-//! Copies that equal their source.
-mod iblock;
-mod iexpr;
-mod itype;
-mod texts;
-mod value;
-
-pub(crate) use iexpr::{copy_all, copy_arguments, copy_maybe};
-pub(crate) use texts::copy_texts;

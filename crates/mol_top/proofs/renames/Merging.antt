@@ -1,0 +1,51 @@
+-- What logs leave of the rows of a base.
+use Rattle.std.proofs.Common.{◌≡◌, List, map, sym, ap, ◌∙◌}
+use Rattle.std.specs.Prelude.{Result, Ok, Err, IfOk, Option}
+use Rattle.std.specs.Option.{option_or}
+use Rattle.std.specs.FinMap.{entries, from_entries}
+use Rattle.mol_outside.specs.Contents.{Contents}
+use Rattle.mol_table.specs.Program.{Program}
+use Rattle.mol_values.specs.declared.cell.Cell.{Cell}
+use Rattle.mol_values.specs.declared.value.Value.{Value}
+use Rattle.mol_top.specs.renames.ClassFiles.{file_of}
+use Rattle.mol_top.specs.renames.Faults.{Class, classes_of, same_addresses, faults}
+use Rattle.mol_top.specs.renames.Merge.{united_in_order, conflicts_in_order}
+use Rattle.mol_top.specs.renames.Merging.{AreRowsOf, IsSettled, IsUnited}
+use Rattle.mol_top.specs.renames.Renaming.{renamed, IsRenaming}
+use Rattle.mol_top.specs.renames.Rows.{classes_in}
+use Rattle.mol_top.specs.renames.Writes.{value_by, after, overlaid}
+use Rattle.mol_top.specs.declared.renames.conflict.Conflict.{Conflict}
+use Rattle.mol_top.specs.declared.renames.log.Log.{Log}
+use Rattle.mol_top.specs.declared.renames.merge.United.{United}
+use Rattle.mol_top.specs.declared.renames.merge.United.TheVariants.{Files, Conflicts}
+use Rattle.mol_top.specs.declared.renames.rows.Row.{Row}
+use Rattle.mol_top.proofs.renames.Overlaid.{classes_overlaid}
+use Rattle.mol_top.proofs.renames.Renames.{value_by_name, either_renaming}
+
+pub onto : {A E : Type 0} (r : Result A E) (P Q : A → Type 0) → ((x : A) → P x → Q x) → IfOk r P → IfOk r Q
+onto (Ok x) P Q f p = f x p
+onto (Err e) P Q f p = p
+
+-- classes under new names are those of the program under new values
+classes_left : (base : Program) (rows left : List Row) (f : Cell → Option Value) → IsRenaming f → AreRowsOf base rows
+    → classes_in left ≡ map (renamed f) (classes_in rows) → classes_in left ≡ classes_of (overlaid base f)
+classes_left base rows left f naming are is = is ∙ ap (map (renamed f)) are.classes ∙ sym (classes_overlaid base f are.rules naming)
+
+pub faults_left : (base : Program) (rows left : List Row) (writes log : Log) → writes ≡ log → AreRowsOf base rows
+    → classes_in left ≡ map (renamed (value_by writes.entries)) (classes_in rows) → same_addresses (classes_in left) ≡ faults (after base log.entries)
+faults_left base rows left writes log same are is =
+    ap same_addresses (classes_left base rows left (value_by writes.entries) (value_by_name writes.entries) are is) ∙ ap (λ (log : Log). faults (after base log.entries)) same
+
+pub classes_united : (base : Program) (rows left : List Row) (one other : Log) → AreRowsOf base rows
+    → classes_in left ≡ map (renamed (λ at. option_or (value_by other.entries at) (value_by one.entries at))) (classes_in rows)
+    → classes_in left ≡ classes_of (united_in_order base one other)
+classes_united base rows left one other are is =
+    classes_left base rows left (λ at. option_or (value_by other.entries at) (value_by one.entries at))
+    (either_renaming (value_by other.entries) (value_by one.entries) (value_by_name other.entries) (value_by_name one.entries)) are is
+
+pub united_of : (base : Program) (one other : Log) (list : List Conflict) (classes : List Class) (answer : United)
+    → list ≡ conflicts_in_order base one other → classes ≡ classes_of (united_in_order base one other)
+    → IsSettled list classes answer → IsUnited base one other answer
+united_of base one other list classes (Conflicts found) listed left is = (is.0 ∙ listed, is.1)
+united_of base one other list classes (Files files) listed left is =
+    (sym listed ∙ is.0, is.1 ∙ ap (λ (classes : List Class). let held : Contents = from_entries (map file_of classes) in entries held) left)

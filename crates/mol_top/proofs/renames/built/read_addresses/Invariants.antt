@@ -1,0 +1,13 @@
+use Rattle.std.proofs.Common.{◌≡◌, take, None, length}
+use Rattle.std.specs.List.{find, filter_map}
+use Rattle.mol_top.specs.renames.Addresses.{address_pairs, is_unbuilt}
+use Rattle.mol_top.specs.renames.ClassFiles.{address_in}
+use Rattle.mol_top.specs.Files.{file_pairs}
+use Rattle.mol_top.proofs.renames.built.read_addresses.Given as goal
+
+abbrev pub invariant-loop-at : goal.invariant-loop-at
+invariant-loop-at l = record {
+  count : length l.addresses.items ≡ l.at;
+  read : address_pairs l.addresses.items ≡ filter_map address_in (file_pairs (take l.at l.files));
+  built : find is_unbuilt (file_pairs (take l.at l.files)) ≡ None;
+}

@@ -1,0 +1,29 @@
+-- Addresses of classes, as the program holds them.
+use Rattle.std.specs.Prelude.{◌≡◌, ◌<◌, ◌&&◌, ⊤, Bool, List, length, map, Some, is_none, slice_get}
+use Rattle.std.specs.List.{find, position}
+use Rattle.mol_top.specs.Files.{FilePair}
+use Rattle.mol_top.specs.renames.ClassFiles.{Address as AddressPair, address_in}
+use Rattle.mol_top.specs.renames.Names.{is_class_name, is_package}
+use Rattle.mol_top.specs.declared.renames.built.AddressFault.{AddressFault}
+use Rattle.mol_top.specs.declared.renames.built.AddressFault.TheVariants.{NotBuilt, OutOfMemory}
+use Rattle.mol_top.specs.declared.renames.class_file.Address.{Address}
+
+-- the package and the name
+abbrev pub address_pair : Address → AddressPair
+address_pair address = (address.«package», address.name)
+
+abbrev pub address_pairs : List Address → List AddressPair
+address_pairs addresses = map address_pair addresses
+
+-- a package and a class name of the built form
+abbrev pub is_named : AddressPair → Bool
+is_named address = is_package address.0 && is_class_name address.1
+
+-- no class is read from the file
+abbrev pub is_unbuilt : FilePair → Bool
+is_unbuilt file = is_none (address_in file)
+
+-- which file is the first that is not of the built form
+abbrev pub IsAddressFault : List FilePair → AddressFault → Type 0
+IsAddressFault files (NotBuilt at) = (at < length files) × (position is_unbuilt files ≡ Some at) × (find is_unbuilt files ≡ slice_get files at)
+IsAddressFault files OutOfMemory = ⊤

@@ -1,0 +1,72 @@
+-- Files of classes without members, the files of a program, its bundle and digest.
+use Rattle.std.specs.Prelude.{◌≡◌, ℕ, true, ◌&&◌, ◌==◌, nat_eq, List, ◌∷◌, ◌++◌, length, map, codes, drop, Option, None, Some, if◌then◌else◌}
+use Rattle.std.specs.List.{concat, before_first, after_first}
+use Rattle.std.specs.Cmp.Lexicographic.{pointwise}
+use Rattle.std.specs.FinMap.{entries, from_entries}
+use Rattle.std.specs.Fmt.{decimal}
+use Rattle.sha2.specs.Sha256.{sha256}
+use Rattle.mol_base.specs.Paths.{path_of}
+use Rattle.mol_outside.specs.Contents.{Contents}
+use Rattle.mol_table.specs.Program.{Program}
+use Rattle.mol_top.specs.Files.{FilePair}
+use Rattle.mol_top.specs.renames.Names.{is_class_name, is_package}
+use Rattle.mol_top.specs.renames.Faults.{Class, classes_of}
+
+-- # The text of a class without members
+
+-- `package Q;`, an empty line, `class NAME {` and `}`, each line ending in LF
+abbrev pub text_of : List ℕ → List ℕ → List ℕ
+text_of «package» name = codes "package " ++ «package» ++ codes ";\n\nclass " ++ name ++ codes " {\n}\n"
+
+-- the file of a class
+abbrev pub file_of : Class → FilePair
+file_of class = (path_of class.«package» class.name, text_of class.«package» class.name)
+
+-- # Reading one
+
+-- a package and a name
+abbrev pub Address : Type 0
+Address = List ℕ × List ℕ
+
+-- what stands where the text of a class has its package and its name
+abbrev pub cut_address : List ℕ → Address
+cut_address bytes =
+    let from : List ℕ = drop 8 bytes in
+    (before_first (λ byte. byte == 59) from, before_first (λ byte. byte == 32) (drop 8 (after_first (λ byte. byte == 59) from)))
+
+-- the class that a file is of, where its bytes and its path are those of a class without members
+abbrev pub address_in : FilePair → Option Address
+address_in file =
+    let address : Address = cut_address file.1 in
+    if is_package address.0 && (is_class_name address.1 && (pointwise nat_eq (text_of address.0 address.1) file.1 && pointwise nat_eq (path_of address.0 address.1) file.0))
+    then Some address else None
+
+-- a file is of the built form where it is the file of a package and a name
+abbrev pub IsClassFile : FilePair → Address → Type 0
+IsClassFile file address = (is_package address.0 && is_class_name address.1 ≡ true) × (file ≡ (path_of address.0 address.1, text_of address.0 address.1))
+
+-- # The files of a program
+
+-- each class has its file
+abbrev pub class_files : List Class → Contents
+class_files classes = from_entries (map file_of classes)
+
+-- each living class has its file
+abbrev pub files : Program → Contents
+files program = class_files (classes_of program)
+
+-- the files in the order of their paths
+abbrev pub file_list : Program → List FilePair
+file_list program = entries (files program)
+
+-- the path, the length and the bytes of a file
+abbrev pub bundled : FilePair → List ℕ
+bundled file = file.0 ++ 10 ∷ decimal (length file.1) ++ 10 ∷ file.1
+
+-- all files, one after another
+abbrev pub bundle : Program → List ℕ
+bundle program = concat (map bundled (file_list program))
+
+-- SHA-256 (FIPS 180-4) of the bundle
+abbrev pub digest_of : Program → List ℕ
+digest_of program = sha256 (bundle program)

@@ -1,0 +1,29 @@
+-- What a merge makes before the first write.
+use Rattle.std.specs.Prelude.{◌≡◌, ℕ, List, [], ◌∷◌, ◌++◌, length, map, codes}
+use Rattle.mol_table.specs.Program.{Program}
+use Rattle.mol_top.specs.Files.{FilePair, file_pairs}
+use Rattle.mol_top.specs.Command.{joined}
+use Rattle.mol_top.specs.Formatting.{below}
+use Rattle.mol_top.specs.renames.LogText.{log_text}
+use Rattle.mol_top.specs.Output.{AreNamed, failure_of}
+use Rattle.mol_top.specs.renames.ConflictReport.{conflicts_report, merge_report}
+use Rattle.mol_top.specs.declared.renames.conflict.Conflict.{Conflict}
+use Rattle.mol_top.specs.declared.renames.log.Log.{Log}
+use Rattle.mol_top.specs.declared.output.Work.{Work}
+
+-- these files below a folder, and this log
+abbrev pub files_below : List ℕ → List FilePair → Log → List FilePair
+files_below out files log = below out files ++ (joined out (codes "merged.mol"), log_text log) ∷ []
+
+pub record IsMergedWork (out : List ℕ) (merged : List FilePair) (log : Log) (work : Work) : Type 0 where
+  pub conflicts : work.conflicts ≡ 0
+  pub files : file_pairs work.files.items ≡ files_below out merged log
+  pub report : work.report.items ≡ merge_report (length merged) (length log.entries)
+  pub failures : work.failures.items ≡ map failure_of work.files.items
+  pub named : AreNamed work.files.items
+
+pub record IsConflictingWork (base : Program) (found : List Conflict) (work : Work) : Type 0 where
+  pub conflicts : work.conflicts ≡ length found
+  pub files : work.files.items ≡ []
+  pub failures : work.failures.items ≡ []
+  pub report : work.report.items ≡ conflicts_report base found

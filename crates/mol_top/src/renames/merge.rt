@@ -1,0 +1,124 @@
+//! The merge of two logs over a base.
+ghost use Rattle.std.specs.Prelude.{◌≡◌, ◌≢◌, ℕ, None, Some, IfOk, IfErr, OnOk, OnErr, IsSome, slice_get};
+ghost use Rattle.mol_table.specs.Program.{Program};
+ghost use Rattle.mol_top.specs.renames.Faults.{faults as faults_of};
+ghost use Rattle.mol_top.specs.renames.Merging.{AreRowsOf, IsMerge, IsSettled, IsUnited};
+ghost use Rattle.mol_top.specs.renames.MergeRefusals.{merge_refusal, replay_refusal};
+ghost use Rattle.mol_top.specs.renames.Rows.{classes_in};
+ghost use Rattle.mol_top.specs.renames.Writes.{after};
+
+use crate::renames::class_files::files_of;
+use crate::renames::classes::rows_of;
+use crate::renames::conflicts::conflicts;
+use crate::renames::last_writes::LastWrites;
+use crate::renames::merged_log::merged_log;
+use crate::renames::replay::rows_after;
+use crate::renames::rows::Row;
+use crate::renames::same_address::{first_same_address, same_addresses};
+use crate::renames::two_logs::{in_order, shared_tag};
+use crate::renames::unite::united_rows;
+use crate::{Conflict, Fault, Log, LogCause, ReplayFault, Status};
+use mol_base::{File, OutOfMemory};
+use mol_table::Table;
+use std::alloc::Global;
+
+/// What a merge answers where it is not refused.
+#[derive(Drop)]
+pub enum Merge {
+    /// The files of the merged program, by their paths, and the merged log.
+    Merged(Vec<File>, Log),
+    /// The conflicts, at least one.
+    Conflicting(Vec<Conflict>),
+}
+
+/// What two logs leave together.
+#[derive(Drop)]
+pub enum United {
+    Files(Vec<File>),
+    Conflicts(Vec<Conflict>),
+}
+
+/// Merges two logs over a base.
+///
+/// Refuses, in this order, logs of one first tag, and a log that leaves two classes of one address, the
+/// first log before the second. The order of the logs decides nothing else. The time is linear in the
+/// classes, the entries and the answer, but for the sorting of the paths.
+pub fn merge_logs(alloc: Global, base: &Table, first: Log, second: Log) -> Result<Merge, Status>
+    ensures refused { IfErr result (λ status. status ≢ Status.OutOfMemory → merge_refusal base.now first second ≡ Some status) }
+    ensures allowed { OnOk result (merge_refusal base.now first second ≡ None) }
+    ensures answer { IfOk result (IsMerge base.now first second) }
+{
+    if let Some(status) = shared_tag(&first, &second) {
+        return Err(status);
+    }
+    let rows = base_rows(alloc, base)?;
+    refuse_replay(alloc, &rows, 1, &first)?;
+    refuse_replay(alloc, &rows, 2, &second)?;
+    let (one, other) = in_order(first, second);
+    match unite(alloc, base, &rows, &one, &other)? {
+        United::Conflicts(conflicts) => Ok(Merge::Conflicting(conflicts)),
+        United::Files(files) => Ok(Merge::Merged(files, merged_log(one, other)?)),
+    }
+}
+
+/// The living classes of a base.
+fn base_rows<'a>(alloc: Global, base: &'a Table) -> Result<Vec<Row<'a>>, OutOfMemory>
+    ensures { IfOk result (λ rows. AreRowsOf base.now rows.items) }
+{
+    // The list of what is known tells that the base keeps the rules of programs.
+    let _known = base.ids();
+    rows_of(alloc, base)
+}
+
+/// Refuses the log of this number where what it leaves of the base of these rows has a fault.
+fn refuse_replay(alloc: Global, rows: &[Row<'_>], which: u8, log: &Log) -> Result<(), Status>
+    ensures refused { IfErr result (λ status. status ≢ Status.OutOfMemory → (base : Program) → AreRowsOf base rows.now → replay_refusal base which log.now ≡ Some status) }
+    ensures allowed { OnOk result ((base : Program) → AreRowsOf base rows.now → replay_refusal base which log.now ≡ None) }
+{
+    match replay_fault(alloc, rows, log)? {
+        Some(fault) => Err(Status::LogRefused(
+            which,
+            LogCause::Replay(ReplayFault::NotClean(fault)),
+        )),
+        None => Ok(()),
+    }
+}
+
+/// The first fault of what a log leaves of the base of these rows, if it leaves one.
+fn replay_fault(alloc: Global, rows: &[Row<'_>], log: &Log) -> Result<Option<Fault>, OutOfMemory>
+    ensures { IfOk result (λ fault. (base : Program) → AreRowsOf base rows.now → fault ≡ slice_get (faults_of (after base log.now.entries)) 0) }
+{
+    let writes = LastWrites::of(alloc, log)?;
+    let left = rows_after(alloc, rows, &writes)?;
+    first_same_address(alloc, &left)
+}
+
+/// The conflicts of two logs in their order, if there are any, or else the files of what both leave.
+fn unite(
+    alloc: Global,
+    base: &Table,
+    rows: &[Row<'_>],
+    one: &Log,
+    other: &Log,
+) -> Result<United, OutOfMemory>
+    requires { AreRowsOf base.now rows.now }
+    ensures { IfOk result (IsUnited base.now one.now other.now) }
+{
+    let these = LastWrites::of(alloc, one)?;
+    let those = LastWrites::of(alloc, other)?;
+    let left = united_rows(alloc, rows, &these, &those)?;
+    let faults = same_addresses(alloc, &left)?;
+    let found = conflicts(alloc, base, &faults, &these, &those)?;
+    settled(alloc, &left, found)
+}
+
+/// The conflicts, if there are any, or else the files of these classes.
+fn settled(alloc: Global, rows: &[Row<'_>], found: Vec<Conflict>) -> Result<United, OutOfMemory>
+    ensures { IfOk result (IsSettled found.items (classes_in rows.now)) }
+{
+    if found.is_empty() {
+        Ok(United::Files(files_of(alloc, rows)?))
+    } else {
+        Ok(United::Conflicts(found))
+    }
+}

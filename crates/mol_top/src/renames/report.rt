@@ -1,0 +1,25 @@
+//! What a merge prints.
+ghost use Rattle.std.specs.Prelude.{◌≡◌, IfOk};
+ghost use Rattle.mol_top.specs.renames.ConflictReport.{merge_report as merge_report_of};
+
+mod conflicts;
+mod pieces;
+mod values;
+
+use crate::append::push_number;
+pub use conflicts::conflicts_report;
+use mol_base::OutOfMemory;
+pub use pieces::push_fault;
+use std::alloc::Global;
+
+/// The report of a merge that wrote so many files and a log of so many operations.
+pub fn merge_report(alloc: Global, files: usize, operations: usize) -> Result<Vec<u8>, OutOfMemory>
+    ensures { IfOk result (λ report. report.items ≡ merge_report_of files operations) }
+{
+    let mut report = Vec::from_slice(alloc, b"merged\nfiles ")?;
+    push_number(alloc, &mut report, files as u64)?;
+    report.extend_from_slice(b"\noperations ")?;
+    push_number(alloc, &mut report, operations as u64)?;
+    report.push(b'\n')?;
+    Ok(report)
+}

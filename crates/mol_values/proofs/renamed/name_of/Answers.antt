@@ -1,0 +1,10 @@
+use Rattle.std.proofs.Common.{◌∙◌, ap}
+use Rattle.std.specs.Prelude.{unwrap_or}
+use Rattle.mol_base.specs.Order.{id_cmp, id_cmp-total}
+use Rattle.mol_values.proofs.Lookups.{get_is}
+use Rattle.mol_values.specs.Order.{id_eq}
+use Rattle.mol_values.proofs.Ties.{id_ties}
+use Rattle.mol_values.proofs.renamed.name_of.Goals as goal
+
+pub returns : goal.returns
+returns c = c.unwrap_or.ensures ∙ ap (λ o. unwrap_or o c.args.id.now) (c.copied.ensures ∙ c.get.ensures.value ∙ get_is id_cmp id_eq id_ties id_cmp-total c.args.id.now c.args.names.now.entries)

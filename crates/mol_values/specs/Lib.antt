@@ -1,0 +1,5 @@
+pub mod Blocks
+pub mod Order
+pub mod Renamed
+pub mod Renaming
+pub mod Slots

@@ -1,0 +1,27 @@
+//! Values of the cells of a program, with their trees: copies of them, whether two are the same, and values with other
+//! identities.
+#![tactic(auto)]
+
+mod cell;
+mod copy;
+mod iblock;
+mod iexpr;
+mod itype;
+mod kind;
+mod known;
+mod param;
+mod renamed;
+mod same;
+mod value;
+mod words;
+
+pub use cell::{Cell, Slot};
+pub use copy::copy_texts;
+pub use iblock::{IBlock, IBody, IDeclarator, IElse, IForStart, IIf, ILet, IStmt, IStmtNode};
+pub use iexpr::{Argument, IExpr};
+pub use itype::IType;
+pub use kind::{Kind, MethodKind};
+pub use known::Known;
+pub use param::Param;
+pub use value::Value;
+pub use words::{Notes, Words};
