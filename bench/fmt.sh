@@ -16,21 +16,33 @@ import filecmp, os, shutil, subprocess, sys, time
 import java_sources
 
 PROGRAM, WORK = sys.argv[1:]
-RUNS, FILES, MOST, TOGETHER = 5, 4096, 1 << 20, 16 << 20
+RUNS, FILES, MOST, TOGETHER = 3, 4096, 1 << 20, 16 << 20
 
 
-def timed(words, before=lambda: None, **given):
+# Runs its words and prints the seconds, the peak memory in bytes and the exit status: a process of its own, since a
+# child's peak counts what its parent held when it was made.
+LAUNCHER = """
+import os, sys, time
+start = time.perf_counter()
+child = os.fork()
+if not child:
+    os.dup2(os.open(os.devnull, os.O_WRONLY), 1)
+    os.execvp(sys.argv[1], sys.argv[1:])
+_, status, usage = os.wait4(child, 0)
+print(time.perf_counter() - start, usage.ru_maxrss * 1024, os.waitstatus_to_exitcode(status))
+"""
+
+
+def timed(words, before=lambda: None):
     """The least time of some runs in seconds, and the greatest peak memory in bytes."""
     best, peak = float("inf"), 0
     for _ in range(RUNS):
         before()
-        start = time.perf_counter()
-        child = subprocess.Popen(words, stdout=subprocess.DEVNULL, **given)
-        _, status, usage = os.wait4(child.pid, 0)
-        best = min(best, time.perf_counter() - start)
-        if status:
-            sys.exit(f"{words[0]} ends with {os.waitstatus_to_exitcode(status)}")
-        peak = max(peak, usage.ru_maxrss * 1024)
+        launched = subprocess.run([sys.executable, "-S", "-c", LAUNCHER, *words], stdout=subprocess.PIPE, stderr=subprocess.DEVNULL, check=True)
+        seconds, memory, status = launched.stdout.split()
+        if int(status):
+            sys.exit(f"{words[0]} ends with {int(status)}")
+        best, peak = min(best, float(seconds)), max(peak, int(memory))
     return best, peak
 
 
@@ -56,7 +68,7 @@ def compare(what, sources):
     size, largest = sum(map(len, sources)), max(map(len, sources))
     print(f"{what}: {len(sources)} files, {size} bytes, the largest {largest}")
     print(f"  molref fmt, whole process, best of {RUNS}: {ours * 1000:.0f} ms, {size / ours / 1e6:.1f} MB/s; "
-          f"peak memory {peak / 1e6:.1f} MB, {(peak - size) / largest:.1f} times the largest file beyond the sources", flush=True)
+          f"peak memory {peak / 1e6:.1f} MB, {peak / size:.1f} times the sources", flush=True)
     again = f"{WORK}/{what}.again"
     subprocess.run([PROGRAM, "fmt", out, again], stdout=subprocess.DEVNULL, check=True)
     for name in names:
@@ -85,10 +97,11 @@ def compare(what, sources):
 
 print(f"cores {os.cpu_count()}, load {os.getloadavg()[0]:.1f}")
 compare("generated", [java_sources.generated(f"Source{k}", 8000) for k in range(1000)])
-real = []
+real, size = [], 0
 for source in java_sources.of_machine(MOST):
-    if len(real) < FILES and sum(map(len, real)) + len(source) <= TOGETHER and is_source(source):
+    if len(real) < FILES and size + len(source) <= TOGETHER and java_sources.may_be_of_subset(source) and is_source(source):
         real.append(source)
+        size += len(source)
 if real:
     compare("real", real)
 else:

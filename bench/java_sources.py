@@ -1,6 +1,7 @@
 """Java sources: the machine's own, and generated ones."""
 import glob
 import os
+import re
 import zipfile
 
 
@@ -37,3 +38,9 @@ def generated(name, size):
         written += len(part)
     parts.append("}\n")
     return "".join(parts).encode()
+
+
+def may_be_of_subset(source):
+    """Whether a source has none of the parts of Java that are most often left out: a quick look before it is read."""
+    code = re.sub(rb'/\*.*?\*/|//[^\n]*|"(?:\\.|[^"\\\n])*"|\'(?:\\.|[^\'\\\n])*\'', b" ", source, flags=re.S)
+    return not re.search(rb"@(?!Override\b)|->|::|<\w+>|\b(?:switch|try|interface|enum|float|double|do|assert|synchronized|native|implements|throws)\b", code)
