@@ -1,5 +1,5 @@
 -- Which members and source files are printable: exactly what the layout needs so that its text parses to the tree as printed,
--- where that is within the limits of height and number. Each tree of the grammar is printable.
+-- where that is within the limits of height and number.
 use Rattle.std.specs.Prelude.{◌≡◌, ℕ, ◌≤◌, List, Bool, true, ◌&&◌, Option, Some, None, IsTrue, All}
 use Rattle.std.specs.List.{list_all}
 use Rattle.std.specs.List.Sorted.{IsSorted}
