@@ -115,7 +115,7 @@ filler-mentions text = at (first text == 45) where
   at false = mentions-Lit text
 
 -- what holds of each argument and of a filler holds of the value for a parameter
-value-holds : (Q : IExpr → Type 0) (args : List Argument) → AllByRecursion (λ (argument : Argument). Q argument.value) args
+pub value-holds : (Q : IExpr → Type 0) (args : List Argument) → AllByRecursion (λ (argument : Argument). Q argument.value) args
     → (param : Param) → Q (filler_expr param.filler) → Q (value_of args param)
 value-holds Q [] all param filler = filler
 value-holds Q (argument ∷ args) all param filler = at (same_id param.id argument.param) (value-holds Q args all.1 param filler) where

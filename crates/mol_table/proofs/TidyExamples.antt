@@ -13,26 +13,26 @@ use Rattle.mol_values.specs.declared.itype.IType.TheVariants as types
 use Rattle.mol_values.specs.declared.param.Param.{Param}
 use Rattle.mol_table.proofs.Tidied.{argument_is, tidied-NewDefault}
 
-abbrev base : ℕ → Id
+abbrev pub base : ℕ → Id
 base n = record { tag = []; num = n }
 
-abbrev ann : ℕ → Id
+abbrev pub ann : ℕ → Id
 ann n = record { tag = codes "ann"; num = n }
 
 -- an `int` of the filler `0`
-abbrev int_param : Id → List ℕ → Param
+abbrev pub int_param : Id → List ℕ → Param
 int_param id name = record { id = id; name = name; ty = types.Int; filler = codes "0" }
 
-abbrev given : Id → IExpr → Argument
+abbrev pub given : Id → IExpr → Argument
 given id value = record { param = id; value = value }
 
-abbrev lit : List ℕ → IExpr
+abbrev pub lit : List ℕ → IExpr
 lit text = exprs.Lit text
 
 -- ---- how each part is tidied
 
 module _ (present : Id → List Param) (bare : Id → Option Id) where
-  abbrev tidied : IExpr → IExpr
+  abbrev pub tidied : IExpr → IExpr
   tidied = tidy_expr present bare
 
   abbrev arguments : List Argument → List Argument
@@ -41,7 +41,7 @@ module _ (present : Id → List Param) (bare : Id → Option Id) where
   step : (x : IExpr-F IExpr Argument) → tidied (roll-IExpr x) ≡ expr_step present bare (map-IExpr _ _ _ _ tidied (tidy_argument present bare) x)
   step x = fold-roll-IExpr IExpr Argument (expr_step present bare) (argument_step present bare) x
 
-  lit_is : (text : List ℕ) → tidied (lit text) ≡ lit text
+  pub lit_is : (text : List ℕ) → tidied (lit text) ≡ lit text
   lit_is text = ap tidied (sym (exprs.rolls-Lit text)) ∙ step (IExpr-F.Lit text)
 
   param_is : (id : Id) → tidied (exprs.Param id) ≡ exprs.Param id
@@ -60,23 +60,23 @@ module _ (present : Id → List Param) (bare : Id → Option Id) where
   given_is id value new is = argument_is present bare (given id value) ∙ ap (given id) is
 
 -- no class has a constructor of its own
-abbrev none : Id → Option Id
+abbrev pub none : Id → Option Id
 none class = None
 
 -- ---- `cart.total()` of a method `:11` without parameters, whatever it is called now
 
-abbrev no_params : Id → List Param
+abbrev pub no_params : Id → List Param
 no_params method = []
 
-total : tidied no_params none (exprs.CallOn (base 11) (exprs.Param (base 19)) []) ≡ exprs.CallOn (base 11) (exprs.Param (base 19)) []
+pub total : tidied no_params none (exprs.CallOn (base 11) (exprs.Param (base 19)) []) ≡ exprs.CallOn (base 11) (exprs.Param (base 19)) []
 total = callon_is no_params none (base 11) (exprs.Param (base 19)) [] ∙ ap (λ e. exprs.CallOn (base 11) e []) (param_is no_params none (base 19))
 
 -- ---- `cart.add(2, 3)` of the method `:14` with `:15` amount and `:16` times, once its parameters are times, amount and a new one
 
-abbrev changed : Id → List Param
+abbrev pub changed : Id → List Param
 changed method = int_param (base 16) (codes "times") ∷ int_param (base 15) (codes "amount") ∷ int_param (ann 1) (codes "bonus") ∷ []
 
-add : tidied changed none (exprs.CallOn (base 14) (exprs.Param (base 19)) (given (base 15) (lit (codes "2")) ∷ given (base 16) (lit (codes "3")) ∷ []))
+pub add : tidied changed none (exprs.CallOn (base 14) (exprs.Param (base 19)) (given (base 15) (lit (codes "2")) ∷ given (base 16) (lit (codes "3")) ∷ []))
     ≡ exprs.CallOn (base 14) (exprs.Param (base 19)) (given (base 16) (lit (codes "3")) ∷ given (base 15) (lit (codes "2")) ∷ given (ann 1) (lit (codes "0")) ∷ [])
 add =
     callon_is changed none (base 14) (exprs.Param (base 19)) _
@@ -85,10 +85,10 @@ add =
 
 -- ---- `cart.add(1, Cart.tax(2))` once `:14` has amount alone: the argument that went held a call
 
-abbrev shorter : Id → List Param
+abbrev pub shorter : Id → List Param
 shorter method = int_param (base 15) (codes "amount") ∷ []
 
-add_shorter : tidied shorter none (exprs.CallOn (base 14) (exprs.Param (base 19))
+pub add_shorter : tidied shorter none (exprs.CallOn (base 14) (exprs.Param (base 19))
     (given (base 15) (lit (codes "1")) ∷ given (base 16) (exprs.StaticCall (base 12) (given (base 13) (lit (codes "2")) ∷ [])) ∷ []))
     ≡ exprs.CallOn (base 14) (exprs.Param (base 19)) (given (base 15) (lit (codes "1")) ∷ [])
 add_shorter =
@@ -99,10 +99,10 @@ add_shorter =
 
 -- ---- `tax(Desk)` of the static method `:12` with `:13` amount, where `Desk` is the first local
 
-abbrev amount : Id → List Param
+abbrev pub amount : Id → List Param
 amount method = int_param (base 13) (codes "amount") ∷ []
 
-tax : tidied amount none (exprs.StaticCall (base 12) (given (base 13) (exprs.Local 0) ∷ [])) ≡ exprs.StaticCall (base 12) (given (base 13) (exprs.Local 0) ∷ [])
+pub tax : tidied amount none (exprs.StaticCall (base 12) (given (base 13) (exprs.Local 0) ∷ [])) ≡ exprs.StaticCall (base 12) (given (base 13) (exprs.Local 0) ∷ [])
 tax =
     scall_is amount none (base 12) _
     ∙ (λ i. exprs.StaticCall (base 12) (arguments_for (amount (base 12)) (given_is amount none (base 13) (exprs.Local 0) _ (local_is amount none 0) i ∷ [])))

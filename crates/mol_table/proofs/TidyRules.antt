@@ -62,11 +62,11 @@ came : {X : Type 0} (f : X → X) (o : Option X) (value : X) → option_map f o 
 came f None value e = absurd (none-some value e)
 came f (Some x) value e = (x, refl, some-same (f x) value e)
 
-and-both : (a b : Bool) → (a && b) ≡ true → (a ≡ true) × (b ≡ true)
+pub and-both : (a b : Bool) → (a && b) ≡ true → (a ≡ true) × (b ≡ true)
 and-both true b e = (refl, e)
 and-both false b e = absurd (true≢false (sym e))
 
-found-passes : (p : Id → Bool) (ks : List Id) (k : Id) → find p ks ≡ Some k → p k ≡ true
+pub found-passes : (p : Id → Bool) (ks : List Id) (k : Id) → find p ks ≡ Some k → p k ≡ true
 found-passes p [] k e = absurd (none-some k e)
 found-passes p (x ∷ ks) k e = at (p x) refl e (found-passes p ks k) where
   at : (b : Bool) → p x ≡ b → cond b (Some x) (find p ks) ≡ Some k → (find p ks ≡ Some k → p k ≡ true) → p k ≡ true
@@ -113,7 +113,7 @@ module _ (program : Program) where
   yes-kept (Some (values.Body x)) = refl
   yes-kept (Some (values.Value ty init)) = refl
 
-  living-kept : (id : Id) → living_at (tidy program) id ≡ living_at program id
+  pub living-kept : (id : Id) → living_at (tidy program) id ≡ living_at program id
   living-kept id = ap is_yes (tidied-at (cell id slots.Live)) ∙ yes-kept (value_at program id slots.Live)
 
   pub tidy-Counted : (counts : Counts) → Counted program counts → Counted (tidy program) counts
@@ -198,7 +198,7 @@ module _ (program : Program) where
   declared-kept kind (Some (values.Value ty init)) body h = h
 
   module _ (rules : IsProgram program) where
-    params-formed : (method : Id) → are_params (params_at program method) ≡ true
+    pub params-formed : (method : Id) → are_params (params_at program method) ≡ true
     params-formed method = at (value_at program method slots.Params) refl where
       of-known : (params : List Param) → value_at program method slots.Params ≡ Some (values.Params params) → (known : Option Known) → get program.known method ≡ known → are_params params ≡ true
       of-known params is None e = absurd (not_absent (get program.known method) (owner-known program rules (cell method slots.Params) (ap is_some is)) e)

@@ -210,7 +210,8 @@ impl Table {
     /// identity and each call; in a call, each parameter looks through the arguments, of which there are at
     /// most 255.
     pub fn tidy(&self, alloc: Global) -> Result<Table, OutOfMemory>
-        ensures { IfOk result (λ tidied. tidied ≡ tidy self.now) }
+        ensures ok { IfOk result (λ tidied. tidied ≡ tidy self.now) }
+        ensures tidied { IfOk result (λ tidied. tidy tidied ≡ tidied) }
     {
         Ok(Table {
             maps: self.maps.tidied(alloc)?,

@@ -1,8 +1,10 @@
-use Rattle.std.proofs.Common.{sym, subst}
+use Rattle.std.proofs.Common.{◌≡◌, ◌∙◌, sym, ap, subst}
 use Rattle.mol_table.specs.Counting.{Counts, Counted}
 use Rattle.mol_table.specs.Maps.{program_in, counts_in}
 use Rattle.mol_table.specs.Program.{Program}
 use Rattle.mol_table.specs.Rules.{IsProgram}
+use Rattle.mol_table.specs.Tidy.{tidy}
+use Rattle.mol_table.proofs.TidyOfTidied.{tidy-tidy}
 use Rattle.mol_table.proofs.TidyRules.{tidy-IsProgram, tidy-Counted}
 use Rattle.mol_table.proofs.table.Table.tidy.Goals as goal
 
@@ -16,3 +18,9 @@ invariant_of-result c =
           (subst (λ (p : Program). Counted p (counts_in c.self.inside.maps)) (sym ensures.program) (tidy-Counted old (counts_in c.self.inside.maps) c.self.invariant.counted));
       ordered = ensures.ordered;
     }
+
+pub returns-clause-tidied : goal.returns-clause-tidied
+returns-clause-tidied c =
+    let old = program_in c.self.inside.maps in
+    let is : program_in c.in_ok-tidied.field-0 ≡ tidy old = c.in_ok-tidied.ensures.program in
+    ap tidy is ∙ tidy-tidy old c.self.invariant.rules ∙ sym is
