@@ -9,7 +9,8 @@ use Rattle.jav_tree.specs.declared.unit.Unit.{Unit as Tree}
 use Rattle.jav_tree.specs.Trees.{IsUnit}
 use Rattle.jav_tree.specs.Layout.{unit_text}
 use Rattle.jav_tree.specs.Parens.{unit_without_parens}
-use Rattle.jav_tree.specs.WithParens.{unit_printed_height}
+use Rattle.jav_tree.specs.Places.{SameUnit}
+use Rattle.jav_tree.specs.WithParens.{unit_printed_height, unit_with_parens}
 use Rattle.jav_rules.specs.BadToken.{most_items, most_height, units, IsFault}
 use Rattle.jav_rules.specs.declared.fault.ParseFault.{ParseFault}
 use Rattle.jav_rules.specs.declared.fault.ParseFault.TheVariants as parse
@@ -69,3 +70,17 @@ pub record IsFormatted (bytes text : List ℕ) (height : ℕ) : Type 0 where
   pub is : IsUnitOf bytes unit
   pub layout : text ≡ unit_text (unit_without_parens unit)
   pub printed : height ≡ unit_printed_height unit
+
+-- A text that reads back: it is the source of a tree again, which but for places is the tree of these bytes as printed, and so
+-- without parentheses that tree.
+pub record ReadsBack (bytes text : List ℕ) : Type 0 where
+  pub unit : Tree
+  pub is : IsUnitOf bytes unit
+  pub tree : Tree
+  pub reads : IsUnitOf text tree
+  pub as_printed : SameUnit tree (unit_with_parens unit)
+  pub dropped : SameUnit (unit_without_parens tree) (unit_without_parens unit)
+
+-- A text that is in the one layout already: formatting it changes nothing.
+abbrev pub IsSettled : List ℕ → ℕ → Type 0
+IsSettled text height = IsFormatted text text height

@@ -1,0 +1,4 @@
+pub mod Changes
+pub mod Operands
+pub mod Units
+pub mod Placeless

@@ -1,0 +1,12 @@
+pub mod OneTokens
+pub mod Names
+pub mod Types
+pub mod Expressions
+pub mod Statements
+pub mod Words
+pub mod Members
+pub mod Units
+pub mod GrammarTrees
+pub mod Widths
+pub mod WidthsStatements
+pub mod WidthsMembers
