@@ -68,7 +68,8 @@ def compare(what, sources):
     size, largest = sum(map(len, sources)), max(map(len, sources))
     print(f"{what}: {len(sources)} files, {size} bytes, the largest {largest}")
     print(f"  molref fmt, whole process, best of {RUNS}: {ours * 1000:.0f} ms, {size / ours / 1e6:.1f} MB/s; "
-          f"peak memory {peak / 1e6:.1f} MB, {peak / size:.1f} times the sources", flush=True)
+          f"peak memory {peak / 1e6:.1f} MB, {peak / size:.1f} times the sources, "
+          f"or these and {(peak - size) / largest:.0f} times the largest file", flush=True)
     again = f"{WORK}/{what}.again"
     subprocess.run([PROGRAM, "fmt", out, again], stdout=subprocess.DEVNULL, check=True)
     for name in names:

@@ -1,26 +1,32 @@
 -- What `fmt` makes, and what stops it.
-use Rattle.std.proofs.Common.{◌≡◌, ℕ, zero, suc, ◌+◌, ◌≤◌, ◌<◌, inl, inr, Option, sym, ◌∙◌, ap, refl, subst, arith, List, [], ◌∷◌, ◌++◌, length, take, drop, true, false, get_or}
-use Rattle.std.specs.Prelude.{None, Some, nat_lt}
+use Rattle.std.proofs.Common.{◌≡◌, ◌⊎◌, Bool, true, false, ℕ, zero, suc, ◌+◌, ◌<◌, inr, sym, ◌∙◌, ap, refl, arith, List, [], ◌∷◌, ◌++◌, length, take, drop, get_or}
+use Rattle.std.specs.Prelude.{None, Some}
 use Rattle.std.specs.List.{All}
 use Rattle.std.specs.Option.{ForSome}
 use Rattle.std.proofs.lemmas.List.{drop_more, take-append-drop}
-use Rattle.mol_base.specs.Limits.{most}
 use Rattle.mol_base.specs.declared.file.File.{File}
-use Rattle.mol_base.specs.declared.limit.Which.TheVariants.{FileBytes, SourceBytes, Height}
-use Rattle.mol_outside.specs.Contents.{Contents}
 use Rattle.mol_source.specs.Sources.{IsFormatted}
-use Rattle.mol_top.specs.Files.{FilePair, base_files, file_pair, file_pairs}
+use Rattle.mol_top.specs.Answers.{limit_status, store_status}
 use Rattle.mol_top.specs.Command.{Command, FmtWords}
-use Rattle.mol_top.specs.Formatting.{AreFormatted, IsSourceFile, IsTextWork, RefusesSource, RefusesSources, HasTexts, FmtRefuses, FmtStops, long_text, long_texts, tall_tree, texts_refusal, fmt_outcome}
-use Rattle.mol_top.specs.Prepared.{IsPrepared, HasItsBase}
-use Rattle.mol_top.specs.Refusals.{reading_refusal, out_refusal}
-use Rattle.mol_table.specs.Program.{nothing}
-use Rattle.mol_top.specs.Steps.{Stops, IsBelow, RefusesBy}
-use Rattle.mol_top.specs.declared.output.Work.{Work}
+use Rattle.mol_top.specs.Files.{FilePair, file_pair, file_pairs}
+use Rattle.mol_top.specs.Formatting.{AreFormatted, IsSourceFile, RefusesSource, RefusesSources, HasTexts, FmtRefuses}
+use Rattle.mol_top.specs.Output.{texts_refusal}
+use Rattle.mol_top.specs.Outside.{OnlyReads, Store}
+use Rattle.mol_top.specs.Outcome.{ByNames}
+use Rattle.mol_top.specs.Prepared.{IsStopped, StopsCommand}
+use Rattle.mol_top.specs.Refusals.{out_refusal}
+use Rattle.mol_top.specs.Report.{line_bytes, names_addresses, refusal_line}
+use Rattle.mol_top.specs.Steps.{Only, Stops}
+use Rattle.mol_top.specs.declared.fault.FormatFault.{FormatFault}
+use Rattle.mol_top.specs.declared.fault.FormatFault.TheVariants as format
+use Rattle.mol_top.specs.declared.fault.LimitFault.{LimitFault}
+use Rattle.mol_top.specs.declared.fault.StoreFault.{StoreFault}
+use Rattle.mol_top.specs.declared.fault.StoreFault.TheVariants.{OutOfMemory, ReadFailed}
 use Rattle.mol_top.specs.declared.status.BaseFault.TheVariants.{Source}
-use Rattle.mol_top.specs.declared.status.LogCause.TheVariants.{SharedTag, Replay}
+use Rattle.mol_top.specs.declared.refusal.Refusal.{Refusal}
 use Rattle.mol_top.specs.declared.status.Status.{Status}
-use Rattle.mol_top.specs.declared.status.Status.TheVariants.{Done, Conflicts, Usage, BaseRefused, LogRefused, ReadFailed, Missing, WriteFailed, OutOfMemory, OutInUse, Limit, NotBuilt}
+use Rattle.mol_top.specs.declared.status.Status.TheVariants.{BaseRefused, OutOfMemory as no_memory}
+use Rattle.mol_top.proofs.Stopping.{either_stops}
 
 -- # Texts
 
@@ -55,164 +61,38 @@ sources_of (f ∷ files) (t ∷ texts) (h ∷ heights) are zero d within = recor
 sources_of (f ∷ files) (t ∷ texts) (h ∷ heights) are (suc k) d within = sources_of files texts heights are.2 k d (omega (arith, within))
 
 -- the first file that has none
-pub first_refused : (files before texts after : List FilePair) (heights : List ℕ) (file : FilePair) (status : Status) → files ≡ before ++ file ∷ after
-    → AreFormatted before texts heights → RefusesSource file status → RefusesSources files status
-first_refused files before texts after heights file OutOfMemory split are refused = tt
-first_refused files before texts after heights file (BaseRefused (Source at fault)) split are refused = record {
+pub first_refused : (files before texts after : List FilePair) (heights : List ℕ) (file : FilePair) (fault : FormatFault) → files ≡ before ++ file ∷ after
+    → AreFormatted before texts heights → RefusesSource file fault → RefusesSources files fault
+first_refused files before texts after heights file format.OutOfMemory split are refused = tt
+first_refused files before texts after heights file (format.Base (Source at fault)) split are refused = record {
   file = file;
   fault = fault;
   first = record { before = before; after = after; split = split; sources = sources_of before texts heights are; there = refused.0 };
   is = ap (λ at. BaseRefused (Source at fault)) refused.1;
 }
-first_refused files before texts after heights file Done split are refused = refused
-first_refused files before texts after heights file (Conflicts n) split are refused = refused
-first_refused files before texts after heights file Usage split are refused = refused
-first_refused files before texts after heights file (LogRefused w f) split are refused = refused
-first_refused files before texts after heights file (ReadFailed p) split are refused = refused
-first_refused files before texts after heights file (Missing p) split are refused = refused
-first_refused files before texts after heights file (WriteFailed p) split are refused = refused
-first_refused files before texts after heights file (OutInUse p) split are refused = refused
-first_refused files before texts after heights file (Limit w n) split are refused = refused
-first_refused files before texts after heights file (NotBuilt p) split are refused = refused
-
--- # Limits of texts
-
-next : (texts : List File) (i : ℕ) (text : File) → i < length texts → text ≡ get_or texts i text → file_pairs (drop i texts) ≡ file_pair text ∷ file_pairs (drop (i + 1) texts)
-next texts i text within is = ap file_pairs (drop_more texts i text within ∙ ap (λ t. t ∷ drop (i + 1) texts) (sym is))
-
-drop_past : {X : Type 0} (xs : List X) (i : ℕ) → length xs ≤ i → drop i xs ≡ []
-drop_past [] zero past = refl
-drop_past [] (suc i) past = refl
-drop_past (x ∷ xs) zero past = absurd (omega (arith, past))
-drop_past (x ∷ xs) (suc i) past = drop_past xs i (omega (arith, past))
-
-module _ (texts : List File) (i : ℕ) where
-  pub no_long_text : length texts ≤ i → long_text (file_pairs texts) ≡ long_text (file_pairs (drop i texts)) → long_text (file_pairs texts) ≡ None
-  no_long_text past rest = rest ∙ ap (λ ts. long_text (file_pairs ts)) (drop_past texts i past)
-
-  pub no_long_texts : (total : ℕ) → length texts ≤ i → long_texts 0 (file_pairs texts) ≡ long_texts total (file_pairs (drop i texts)) → long_texts 0 (file_pairs texts) ≡ None
-  no_long_texts total past rest = rest ∙ ap (λ ts. long_texts total (file_pairs ts)) (drop_past texts i past)
-
-  module _ (text : File) (within : i < length texts) (is : text ≡ get_or texts i text) where
-    pub long_text-next : long_text (file_pairs texts) ≡ long_text (file_pairs (drop i texts)) → nat_lt (most FileBytes) (length text.bytes) ≡ false
-        → long_text (file_pairs texts) ≡ long_text (file_pairs (drop (i + 1) texts))
-    long_text-next rest fits = rest ∙ ap long_text (next texts i text within is) ∙ rw fits refl
-
-    pub long_text-found : long_text (file_pairs texts) ≡ long_text (file_pairs (drop i texts)) → nat_lt (most FileBytes) (length text.bytes) ≡ true
-        → long_text (file_pairs texts) ≡ Some (Limit FileBytes (length text.bytes))
-    long_text-found rest passes = rest ∙ ap long_text (next texts i text within is) ∙ rw passes refl
-
-    module _ (total : ℕ) (rest : long_texts 0 (file_pairs texts) ≡ long_texts total (file_pairs (drop i texts))) where
-      pub long_texts-next : nat_lt (most SourceBytes) (total + length text.bytes) ≡ false → long_texts 0 (file_pairs texts) ≡ long_texts (total + length text.bytes) (file_pairs (drop (i + 1) texts))
-      long_texts-next fits = rest ∙ ap (long_texts total) (next texts i text within is) ∙ rw fits refl
-
-      pub long_texts-found : nat_lt (most SourceBytes) (total + length text.bytes) ≡ true → long_texts 0 (file_pairs texts) ≡ Some (Limit SourceBytes (total + length text.bytes))
-      long_texts-found passes = rest ∙ ap (long_texts total) (next texts i text within is) ∙ rw passes refl
-
--- # Heights
-
-module _ (heights : List ℕ) (i : ℕ) where
-  pub no_tall_tree : length heights ≤ i → tall_tree heights ≡ tall_tree (drop i heights) → tall_tree heights ≡ None
-  no_tall_tree past rest = rest ∙ ap tall_tree (drop_past heights i past)
-
-  module _ (height : ℕ) (within : i < length heights) (is : height ≡ get_or heights i height) where
-    next_height : drop i heights ≡ height ∷ drop (i + 1) heights
-    next_height = drop_more heights i height within ∙ ap (λ h. h ∷ drop (i + 1) heights) (sym is)
-
-    pub tall_tree-next : tall_tree heights ≡ tall_tree (drop i heights) → nat_lt (most Height) height ≡ false → tall_tree heights ≡ tall_tree (drop (i + 1) heights)
-    tall_tree-next rest fits = rest ∙ ap tall_tree next_height ∙ rw fits refl
-
-    pub tall_tree-found : tall_tree heights ≡ tall_tree (drop i heights) → nat_lt (most Height) height ≡ true → tall_tree heights ≡ Some (Limit Height height)
-    tall_tree-found rest passes = rest ∙ ap tall_tree next_height ∙ rw passes refl
-
--- # Refusals of what is to be written
-
-pub by_text : (texts : List FilePair) (heights : List ℕ) (s : Status) → RefusesBy (long_text texts) s → RefusesBy (texts_refusal texts heights) s
-by_text texts heights OutOfMemory by = tt
-by_text texts heights (ReadFailed p) by = by
-by_text texts heights Done by = by
-by_text texts heights (Conflicts n) by = by
-by_text texts heights Usage by = by
-by_text texts heights (WriteFailed p) by = by
-by_text texts heights s by = rw by refl
-
-pub by_texts : (texts : List FilePair) (heights : List ℕ) → long_text texts ≡ None → (s : Status) → RefusesBy (long_texts 0 texts) s
-    → RefusesBy (texts_refusal texts heights) s
-by_texts texts heights none OutOfMemory by = tt
-by_texts texts heights none (ReadFailed p) by = by
-by_texts texts heights none Done by = by
-by_texts texts heights none (Conflicts n) by = by
-by_texts texts heights none Usage by = by
-by_texts texts heights none (WriteFailed p) by = by
-by_texts texts heights none s by = rw (none, by) refl
-
-pub by_tree : (texts : List FilePair) (heights : List ℕ) → long_text texts ≡ None → long_texts 0 texts ≡ None → (s : Status) → RefusesBy (tall_tree heights) s
-    → RefusesBy (texts_refusal texts heights) s
-by_tree texts heights none none_together OutOfMemory by = tt
-by_tree texts heights none none_together (ReadFailed p) by = by
-by_tree texts heights none none_together Done by = by
-by_tree texts heights none none_together (Conflicts n) by = by
-by_tree texts heights none none_together Usage by = by
-by_tree texts heights none none_together (WriteFailed p) by = by
-by_tree texts heights none none_together s by = rw (none, none_together) by
 
 -- # The command
 
-module _ (w : FmtWords) (b a : ℕ) (held : Option Contents) where
-  pub fmt_reading : (s : Status) → Stops (IsBelow w.base held) b a held (reading_refusal w.base) s → FmtStops w b a held s
-  fmt_reading OutOfMemory stops = tt
-  fmt_reading (ReadFailed p) stops = (stops.0, inl stops.1)
-  fmt_reading Done stops = stops
-  fmt_reading (Conflicts n) stops = stops
-  fmt_reading Usage stops = stops
-  fmt_reading (WriteFailed p) stops = stops
-  fmt_reading (LogRefused k f) stops = absurd stops
-  fmt_reading s stops = λ h e. FmtRefuses.reading (stops h e)
+module _ (w : FmtWords) (old : Store) (texts : List FilePair) (heights : List ℕ) (has : ForSome old.held (λ h. HasTexts w.base h texts heights)) where
+  pub fmt_occupied : (mid new : Store) (fault : StoreFault) → OnlyReads old mid → Stops (Only w.out) mid new (out_refusal w.out) fault
+      → StopsCommand (Command.fmt w) old new (store_status fault)
+  fmt_occupied mid new OutOfMemory before stops = tt
+  fmt_occupied mid new (ReadFailed p) before stops = (omega (arith, before.reads, stops.0), inr (inr (ap Some (sym stops.1))))
+  fmt_occupied mid new fault before stops = λ h e. FmtRefuses.occupied texts heights (has h e) (stops h (before.held ∙ e))
 
-  pub fmt_source : (files : List FilePair) (s : Status) → ForSome held (λ h. (reading_refusal w.base h ≡ None) × (files ≡ base_files w.base h)) → RefusesSources files s → FmtStops w b a held s
-  fmt_source files OutOfMemory read refused = tt
-  fmt_source files (BaseRefused f) read refused = λ h e. let r = read h e in FmtRefuses.source r.0 (subst (λ files. RefusesSources files (BaseRefused f)) r.1 refused)
-  fmt_source files Done read refused = absurd refused
-  fmt_source files (Conflicts n) read refused = absurd refused
-  fmt_source files Usage read refused = absurd refused
-  fmt_source files (LogRefused k f) read refused = absurd refused
-  fmt_source files (ReadFailed p) read refused = absurd refused
-  fmt_source files (Missing p) read refused = absurd refused
-  fmt_source files (WriteFailed p) read refused = absurd refused
-  fmt_source files (OutInUse p) read refused = absurd refused
-  fmt_source files (Limit k n) read refused = absurd refused
-  fmt_source files (NotBuilt p) read refused = absurd refused
+  pub fmt_large : (new : Store) (fault : LimitFault) → ForSome old.held (λ h. out_refusal w.out h ≡ None) → texts_refusal texts heights ≡ Some (limit_status fault)
+      → StopsCommand (Command.fmt w) old new (limit_status fault)
+  fmt_large new fault free refused = λ h e. FmtRefuses.large texts heights (has h e) (free h e) refused
 
-  module _ (texts : List FilePair) (heights : List ℕ) (has : ForSome held (λ h. HasTexts w h texts heights)) where
-    pub fmt_occupied : (b1 : ℕ) (s : Status) → b ≤ b1 → Stops (λ p. p ≡ w.out) b1 a held (out_refusal w.out) s → FmtStops w b a held s
-    fmt_occupied b1 OutOfMemory later stops = tt
-    fmt_occupied b1 (ReadFailed p) later stops = (omega (arith, later, stops.0), inr stops.1)
-    fmt_occupied b1 Done later stops = stops
-    fmt_occupied b1 (Conflicts n) later stops = stops
-    fmt_occupied b1 Usage later stops = stops
-    fmt_occupied b1 (WriteFailed p) later stops = stops
-    fmt_occupied b1 (LogRefused k f) later stops = absurd stops
-    fmt_occupied b1 s later stops = λ h e. FmtRefuses.occupied texts heights (has h e) (stops h e)
+-- the line of any refusal of `fmt` is that of its status
+by_names : (b : Bool) (w : FmtWords) (store : Store) (refusal : Refusal) → line_bytes refusal.line ≡ refusal_line refusal.status
+    → ByNames b (Some (Command.fmt w)) store refusal.status (λ line. line_bytes refusal.line ≡ line)
+by_names true w store refusal is = λ h e. is
+by_names false w store refusal is = is
 
-    module _ (free : ForSome held (λ h. out_refusal w.out h ≡ None)) where
-      pub fmt_large : (s : Status) → RefusesBy (texts_refusal texts heights) s → FmtStops w b a held s
-      fmt_large OutOfMemory by = tt
-      fmt_large (ReadFailed p) by = absurd by
-      fmt_large Done by = by
-      fmt_large (Conflicts n) by = by
-      fmt_large Usage by = by
-      fmt_large (WriteFailed p) by = by
-      fmt_large s by = λ h e. FmtRefuses.large texts heights (has h e) (free h e) by
-
-      pub fmt_made : (h : Contents) → held ≡ Some h → texts_refusal texts heights ≡ None → (work : Work) → IsTextWork w.out texts work → IsPrepared (Command.fmt w) h work
-      fmt_made h e small work is = record {
-        outcome = fmt_outcome w.out texts;
-        comes = record { texts = texts; heights = heights; has = has h e; free = free h e; small = small; is = refl };
-        is = is;
-      }
-
--- a command that names no base
-pub fmt_base : (w : FmtWords) (held : Option Contents) (s : Status) → HasItsBase (Command.fmt w) held nothing s
-fmt_base w held (LogRefused k (Replay f)) = λ h e. refl
-fmt_base w held (LogRefused k (SharedTag t)) = tt
-fmt_base w held s = tt
+pub fmt_stopped : (w : FmtWords) (old new : Store) (s : Status) (refusal : Refusal) → StopsCommand (Command.fmt w) old new s
+    → (refusal.status ≡ s) ⊎ (refusal.status ≡ no_memory) → line_bytes refusal.line ≡ refusal_line refusal.status → IsStopped (Command.fmt w) old new refusal
+fmt_stopped w old new s refusal stops said line = record {
+  cause = either_stops (Command.fmt w) old new s refusal.status stops said;
+  line = by_names (names_addresses refusal.status) w old refusal line;
+}

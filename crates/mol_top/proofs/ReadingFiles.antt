@@ -1,6 +1,6 @@
 -- Reading file after file.
-use Rattle.std.proofs.Common.{◌≡◌, ℕ, zero, suc, ◌+◌, ◌<◌, ◌≤◌, List, [], ◌∷◌, ◌++◌, length, get_or, take, drop, map, Option, sym, ◌∙◌, ap, refl, arith, length-append, subst, Bool, cond, true, false}
-use Rattle.std.specs.Prelude.{None, Some, nat_lt}
+use Rattle.std.proofs.Common.{◌≡◌, ℕ, zero, suc, ◌+◌, ◌<◌, ◌≤◌, List, [], ◌∷◌, ◌++◌, length, get_or, take, drop, map, sym, ◌∙◌, ap, refl, arith, length-append}
+use Rattle.std.specs.Prelude.{None, Some}
 use Rattle.std.specs.Option.{ForSome}
 use Rattle.std.specs.FinMap.{get}
 use Rattle.std.proofs.lemmas.List.{length-map, get_or-map, take_more, map_push, drop_more}
@@ -15,22 +15,19 @@ use Rattle.mol_outside.specs.Contents.{Contents}
 use Rattle.mol_top.specs.Files.{FilePair, base_paths, bytes_at, file_pair, file_pairs, files_at}
 use Rattle.mol_top.specs.Command.{joined}
 use Rattle.mol_top.specs.Refusals.{absent_input, files_refusal, reading_refusal, size_refusal}
+use Rattle.mol_top.specs.Outside.{OnlyReads, Store}
 use Rattle.mol_top.specs.Output.{AreSmall}
-use Rattle.mol_top.specs.Steps.{Stops}
+use Rattle.mol_top.proofs.Stopping.{OnlyReads-then}
 use Rattle.mol_top.specs.declared.status.Status.{Status}
-use Rattle.mol_top.specs.declared.status.Status.TheVariants.{Limit}
-use Rattle.std.proofs.lemmas.Option.{same_Some}
 
--- The files at the first of these paths are read, each of them and all together within the limits; what refuses all of the paths refuses the rest of
--- them after so many bytes, and the store is as it was.
-pub record HasRead (held now : Option Contents) (reads reads_now writes writes_now : ℕ) (base : List ℕ) (paths : List (List ℕ)) (done total : ℕ) (read : List File) : Type 0 where
-  pub holds : now ≡ held
-  pub later : reads ≤ reads_now
-  pub same : writes_now ≡ writes
+-- The files at the first of these paths are read, each of them and all together within the limits; what refuses all of the
+-- paths refuses the rest of them after so many bytes, and the store was not written.
+pub record HasRead (old now : Store) (base : List ℕ) (paths : List (List ℕ)) (done total : ℕ) (read : List File) : Type 0 where
+  pub only_reads : OnlyReads old now
   pub count : length read ≡ length (take done paths)
   pub small : AreSmall read
   pub within : total ≤ most SourceBytes
-  pub told : ForSome held (λ h. (files_refusal base h 0 paths ≡ files_refusal base h total (drop done paths)) × (file_pairs read ≡ files_at base h (take done paths)))
+  pub told : ForSome old.held (λ h. (files_refusal base h 0 paths ≡ files_refusal base h total (drop done paths)) × (file_pairs read ≡ files_at base h (take done paths)))
 
 -- one more path, whose file is there
 files-push : (base : List ℕ) (h : Contents) (paths : List (List ℕ)) (path bytes : List ℕ) → get h (joined base path) ≡ Some bytes → files_at base h (paths ++ path ∷ []) ≡ files_at base h paths ++ (path, bytes) ∷ []
@@ -47,39 +44,27 @@ small-push read file all small = All-append (λ (file : File). length file.bytes
   last zero d within = small
   last (suc k) d within = absurd (omega (arith, within))
 
-pub HasRead-more : (held now now2 : Option Contents) (r0 r1 r2 w0 w1 w2 : ℕ) (base : List ℕ) (paths : List (List ℕ)) (i total sum : ℕ) (read : List File) (file : File)
-    → HasRead held now r0 r1 w0 w1 base paths i total read → i < length paths → file.path ≡ get_or paths i file.path
-    → now2 ≡ now → r1 ≤ r2 → w2 ≡ w1 → ForSome now (λ h. get h (joined base file.path) ≡ Some file.bytes)
+pub HasRead-more : (old mid now : Store) (base : List ℕ) (paths : List (List ℕ)) (i total sum : ℕ) (read : List File) (file : File)
+    → HasRead old mid base paths i total read → i < length paths → file.path ≡ get_or paths i file.path
+    → OnlyReads mid now → ForSome mid.held (λ h. get h (joined base file.path) ≡ Some file.bytes)
     → size_refusal total (length file.bytes) ≡ None → sum ≡ total + length file.bytes → sum ≤ most SourceBytes → length file.bytes ≤ most FileBytes
-    → HasRead held now2 r0 r2 w0 w2 base paths (i + 1) sum (read ++ file ∷ [])
-HasRead-more held now now2 r0 r1 r2 w0 w1 w2 base paths i total sum read file had within is same later writes there fits sums under small =
+    → HasRead old now base paths (i + 1) sum (read ++ file ∷ [])
+HasRead-more old mid now base paths i total sum read file had within is reads there fits sums under small =
     let more : take (i + 1) paths ≡ take i paths ++ file.path ∷ [] = take_more paths i file.path within ∙ ap (λ x. take i paths ++ x ∷ []) (sym is) in
     let next : drop i paths ≡ file.path ∷ drop (i + 1) paths = drop_more paths i file.path within ∙ ap (λ x. x ∷ drop (i + 1) paths) (sym is) in
     record {
-      holds = same ∙ had.holds;
-      later = omega (arith, had.later, later);
-      same = writes ∙ had.same;
+      only_reads = OnlyReads-then old mid now had.only_reads reads;
       count = rw more (length-append read (file ∷ []) ∙ ap (λ n. n + 1) had.count ∙ sym (length-append (take i paths) (file.path ∷ [])));
       small = small-push read file had.small small;
       within = under;
       told = λ h e.
           let t = had.told h e in
-          let g = there h (had.holds ∙ e) in (
+          let g = there h (had.only_reads.held ∙ e) in (
             t.0 ∙ ap (files_refusal base h total) next ∙ refusal-rest base h total file.path file.bytes (drop (i + 1) paths) g fits
                 ∙ ap (λ n. files_refusal base h n (drop (i + 1) paths)) (sym sums),
             rw more (map_push file_pair read file ∙ ap (λ x. x ++ file_pair file ∷ []) t.1 ∙ sym (files-push base h (take i paths) file.path file.bytes g)),
           );
     }
-
-drop_past : {X : Type 0} (xs : List X) (i : ℕ) → length xs ≤ i → drop i xs ≡ []
-drop_past [] zero past = refl
-drop_past [] (suc i) past = refl
-drop_past (x ∷ xs) zero past = absurd (omega (arith, past))
-drop_past (x ∷ xs) (suc i) past = drop_past xs i (omega (arith, past))
-
--- all paths are read
-pub nothing-left : (base : List ℕ) (h : Contents) (total : ℕ) (paths : List (List ℕ)) (i : ℕ) → length paths ≤ i → files_refusal base h total (drop i paths) ≡ None
-nothing-left base h total paths i past = ap (files_refusal base h total) (drop_past paths i past)
 
 -- the next file is absent
 pub absent-next : (base : List ℕ) (h : Contents) (paths : List (List ℕ)) (i total : ℕ) (path : List ℕ) (s : Status)
@@ -96,19 +81,6 @@ pub large-next : (base : List ℕ) (h : Contents) (paths : List (List ℕ)) (i t
 large-next base h paths i total path bytes s rest within is there stops =
     let next : drop i paths ≡ path ∷ drop (i + 1) paths = drop_more paths i path within ∙ ap (λ x. x ∷ drop (i + 1) paths) (sym is) in
     rest ∙ ap (files_refusal base h total) next ∙ rw (there, stops) refl
-
--- a limit stops a step: what passes it is a refusal
-limit_refuses : (total size : ℕ) (s : Status) → size_refusal total size ≡ Some s → (n : List ℕ → Type 0) (b a : ℕ) (held : Option Contents) (r : Contents → Option Status)
-    → ForSome held (λ h. r h ≡ Some s) → Stops n b a held r s
-limit_refuses total size s refused n b a held r told = by_tests (nat_lt (most FileBytes) size) (nat_lt (most SourceBytes) (total + size)) refused where
-  by_tests : (x y : Bool) → cond x (Some (Limit FileBytes size)) (cond y (Some (Limit SourceBytes (total + size))) None) ≡ Some s → Stops n b a held r s
-  by_tests true y e = subst (λ s. ForSome held (λ h. r h ≡ Some s) → Stops n b a held r s) (same_Some _ _ e) (λ t. t) told
-  by_tests false true e = subst (λ s. ForSome held (λ h. r h ≡ Some s) → Stops n b a held r s) (same_Some _ _ e) (λ t. t) told
-  by_tests false false e = absurd cc
-
-pub limit_stops : (n : List ℕ → Type 0) (b a : ℕ) (held : Option Contents) (r : Contents → Option Status) (total size : ℕ) (s : Status) → size_refusal total size ≡ Some s
-    → ((h : Contents) → held ≡ Some h → (s : Status) → size_refusal total size ≡ Some s → r h ≡ Some s) → Stops n b a held r s
-limit_stops n b a held r total size s refused told = limit_refuses total size s refused n b a held r (λ h e. told h e s refused)
 
 -- a path among others is below the base among theirs
 pub Contains-joined : (base : List ℕ) (paths : List (List ℕ)) (path : List ℕ) → Contains paths path → Contains (map (joined base) paths) (joined base path)

@@ -1,20 +1,45 @@
 -- A step that stops, among others.
-use Rattle.std.proofs.Common.{◌≡◌, ℕ, ◌≤◌, List, Option, ◌∙◌, arith}
+use Rattle.std.proofs.Common.{◌≡◌, ◌⊎◌, inl, inr, ℕ, List, Option, false, ◌∙◌, sym, subst, arith}
 use Rattle.std.specs.Prelude.{Some}
 use Rattle.mol_outside.specs.Contents.{Contents}
-use Rattle.mol_top.specs.declared.status.Status.{Status}
-use Rattle.mol_top.specs.declared.status.Status.TheVariants.{Done, Conflicts, Usage, LogRefused, WriteFailed, ReadFailed, OutOfMemory}
+use Rattle.mol_top.specs.Answers.{store_status}
+use Rattle.mol_top.specs.Command.{Command}
+use Rattle.mol_top.specs.Outcome.{ByNames}
+use Rattle.mol_top.specs.Outside.{OnlyReads, Store}
+use Rattle.mol_top.specs.Prepared.{HasItsLine, StopsCommand}
+use Rattle.mol_top.specs.Report.{line_bytes, names_addresses, refusal_line}
 use Rattle.mol_top.specs.Steps.{Stops}
+use Rattle.mol_top.specs.declared.fault.StoreFault.{StoreFault}
+use Rattle.mol_top.specs.declared.fault.StoreFault.TheVariants.{OutOfMemory, ReadFailed}
+use Rattle.mol_top.specs.declared.refusal.Refusal.{Refusal}
+use Rattle.mol_top.specs.declared.status.Status.{Status}
+use Rattle.mol_top.specs.declared.status.Status.TheVariants.{OutOfMemory as no_memory}
+
+-- one step after another
+pub OnlyReads-then : (old mid new : Store) → OnlyReads old mid → OnlyReads mid new → OnlyReads old new
+OnlyReads-then old mid new first second = record {
+  held = second.held ∙ first.held;
+  reads = omega (arith, first.reads, second.reads);
+  writes = second.writes ∙ first.writes;
+}
 
 -- a step that stops after others, where it reads only what the whole may read, and what refuses it refuses the whole
-pub Stops-later : (n0 n1 : List ℕ → Type 0) (b0 b1 a : ℕ) (h0 h1 : Option Contents) (r0 r1 : Contents → Option Status) (s : Status)
-    → ((path : List ℕ) → n1 path → n0 path) → b0 ≤ b1 → h1 ≡ h0 → ((h : Contents) → h0 ≡ Some h → r1 h ≡ Some s → r0 h ≡ Some s)
-    → Stops n1 b1 a h1 r1 s → Stops n0 b0 a h0 r0 s
-Stops-later n0 n1 b0 b1 a h0 h1 r0 r1 OutOfMemory named later same more stops = tt
-Stops-later n0 n1 b0 b1 a h0 h1 r0 r1 (ReadFailed p) named later same more stops = (omega (arith, later, stops.0), named p stops.1)
-Stops-later n0 n1 b0 b1 a h0 h1 r0 r1 Done named later same more stops = stops
-Stops-later n0 n1 b0 b1 a h0 h1 r0 r1 (Conflicts n) named later same more stops = stops
-Stops-later n0 n1 b0 b1 a h0 h1 r0 r1 Usage named later same more stops = stops
-Stops-later n0 n1 b0 b1 a h0 h1 r0 r1 (WriteFailed p) named later same more stops = stops
-Stops-later n0 n1 b0 b1 a h0 h1 r0 r1 (LogRefused w f) named later same more stops = stops
-Stops-later n0 n1 b0 b1 a h0 h1 r0 r1 s named later same more stops = λ h e. more h e (stops h (same ∙ e))
+pub Stops-later : (n0 n1 : List ℕ → Type 0) (old mid new : Store) (r0 r1 : Contents → Option Status) (fault : StoreFault)
+    → ((path : List ℕ) → n1 path → n0 path) → OnlyReads old mid
+    → ((h : Contents) → old.held ≡ Some h → r1 h ≡ Some (store_status fault) → r0 h ≡ Some (store_status fault))
+    → Stops n1 mid new r1 fault → Stops n0 old new r0 fault
+Stops-later n0 n1 old mid new r0 r1 OutOfMemory named before more stops = tt
+Stops-later n0 n1 old mid new r0 r1 (ReadFailed p) named before more stops = (omega (arith, before.reads, stops.0), named p stops.1)
+Stops-later n0 n1 old mid new r0 r1 fault named before more stops = λ h e. more h e (stops h (before.held ∙ e))
+
+-- # Refusals
+
+-- a refusal, or want of memory in its place
+pub either_stops : (c : Command) (old new : Store) (s said : Status) → StopsCommand c old new s → (said ≡ s) ⊎ (said ≡ no_memory) → StopsCommand c old new said
+either_stops c old new s said stops (inl is) = subst (StopsCommand c old new) (sym is) stops
+either_stops c old new s said stops (inr is) = subst (StopsCommand c old new) (sym is) tt
+
+-- a line that names no address
+pub plain_line : (c : Command) (store : Store) (refusal : Refusal) → names_addresses refusal.status ≡ false → line_bytes refusal.line ≡ refusal_line refusal.status
+    → HasItsLine c store refusal
+plain_line c store refusal plain is = subst (λ b. ByNames b (Some c) store refusal.status (λ line. line_bytes refusal.line ≡ line)) (sym plain) is

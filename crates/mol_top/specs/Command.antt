@@ -24,7 +24,8 @@ abbrev pub command : List (List ℕ) → Option Command
 command (verb ∷ base ∷ out ∷ []) =
     if pointwise nat_eq verb (codes "fmt") then Some (Command.fmt (record { base = base; out = out })) else None
 command (verb ∷ base ∷ first ∷ second ∷ out ∷ []) =
-    if pointwise nat_eq verb (codes "merge") then Some (Command.merge (record { base = base; first = first; second = second; out = out })) else None
+    if pointwise nat_eq verb (codes "merge")
+    then Some (Command.merge (record { base = base; first = first; second = second; out = out })) else None
 command words = None
 
 -- the two logs in the other order
@@ -34,3 +35,21 @@ swapped words = record words { first = words.second; second = words.first }
 -- a path below a folder
 abbrev pub joined : List ℕ → List ℕ → List ℕ
 joined folder path = folder ++ 47 ∷ path
+
+-- # Paths
+
+-- the paths that the words of a command name: the base, the other inputs, and the folder in which files are written, where there is one
+pub record NamedPaths : Type 0 where
+  pub base : List ℕ
+  pub inputs : List (List ℕ)
+  pub out : Option (List ℕ)
+
+abbrev pub merge_paths : MergeWords → NamedPaths
+merge_paths words = record { base = words.base; inputs = words.first ∷ words.second ∷ []; out = Some words.out }
+
+abbrev pub fmt_paths : FmtWords → NamedPaths
+fmt_paths words = record { base = words.base; inputs = []; out = Some words.out }
+
+abbrev pub paths_of : Command → NamedPaths
+paths_of (Command.merge words) = merge_paths words
+paths_of (Command.fmt words) = fmt_paths words

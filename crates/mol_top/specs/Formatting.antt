@@ -1,36 +1,35 @@
 -- What `fmt` writes, and what refuses it.
-use Rattle.std.specs.Prelude.{◌≡◌, ℕ, ◌+◌, ⊤, List, [], ◌∷◌, ◌++◌, length, map, find, nat_lt, Option, None, Some, option_map, if◌then◌else◌}
+use Rattle.std.specs.Prelude.{◌≡◌, ℕ, ⊤, List, [], ◌∷◌, ◌++◌, length, None, Some}
 use Rattle.std.specs.List.{All}
-use Rattle.std.specs.Option.{option_or}
 use Rattle.jav_tree.specs.declared.unit.Unit.{Unit}
-use Rattle.mol_base.specs.Limits.{most}
 use Rattle.mol_base.specs.Lines.{line, column}
 use Rattle.mol_base.specs.declared.file.Place.{Place}
-use Rattle.mol_base.specs.declared.limit.Which.TheVariants.{FileBytes, SourceBytes, Height}
 use Rattle.mol_outside.specs.Contents.{Contents}
 use Rattle.mol_source.specs.FaultTexts.{place}
-use Rattle.mol_source.specs.Sources.{IsUnitOf, IsFormatted, IsFaultOf}
+use Rattle.mol_source.specs.Sources.{IsUnitOf, IsFormatted, IsFaultOf, ReadsBack}
 use Rattle.mol_source.specs.declared.fault.SourceFault.{SourceFault}
+use Rattle.mol_top.specs.Command.{FmtWords}
 use Rattle.mol_top.specs.Files.{FilePair, base_files}
-use Rattle.mol_top.specs.Command.{FmtWords, joined}
-use Rattle.mol_top.specs.Output.{Outcome, IsWork}
+use Rattle.mol_top.specs.Output.{Outcome, IsWork, below, texts_refusal}
 use Rattle.mol_top.specs.Refusals.{reading_refusal, out_refusal}
 use Rattle.mol_top.specs.Report.{fmt_report}
-use Rattle.mol_top.specs.Steps.{IsNamedByFmt, StopsBy}
+use Rattle.mol_top.specs.declared.fault.FormatFault.{FormatFault}
+use Rattle.mol_top.specs.declared.fault.FormatFault.TheVariants.{Base, OutOfMemory}
 use Rattle.mol_top.specs.declared.output.Work.{Work}
 use Rattle.mol_top.specs.declared.status.BaseFault.TheVariants.{Source}
 use Rattle.mol_top.specs.declared.status.Status.{Status}
-use Rattle.mol_top.specs.declared.status.Status.TheVariants.{BaseRefused, Limit, OutOfMemory}
+use Rattle.mol_top.specs.declared.status.Status.TheVariants.{BaseRefused}
 
 -- # Files in the one layout
 
 -- these texts are those of these files in the one layout, under the same paths, and these are the heights of their trees as printed
 abbrev pub AreFormatted : List FilePair → List FilePair → List ℕ → Type 0
 AreFormatted [] [] [] = ⊤
-AreFormatted (file ∷ files) (text ∷ texts) (height ∷ heights) = (text.0 ≡ file.0) × IsFormatted file.1 text.1 height × AreFormatted files texts heights
+AreFormatted (file ∷ files) (text ∷ texts) (height ∷ heights) =
+    (text.0 ≡ file.0) × IsFormatted file.1 text.1 height × AreFormatted files texts heights
 AreFormatted files texts heights = ⊥
 
--- # Files that are no sources
+-- # Bases of sources
 
 -- a file is the source of a tree
 pub record IsSourceFile (file : FilePair) : Type 0 where
@@ -59,74 +58,65 @@ pub record RefuseSources (files : List FilePair) (status : Status) : Type 0 wher
   pub first : IsFirstUnread files file fault
   pub is : status ≡ source_refusal file fault
 
--- # Limits of what is written
+-- what refuses a base of sources, in the order of a run
+pub data BaseRefuses (base : List ℕ) (held : Contents) (status : Status) : Type 0 where
+  reading : reading_refusal base held ≡ Some status → BaseRefuses base held status
+  source : reading_refusal base held ≡ None → RefuseSources (base_files base held) status → BaseRefuses base held status
 
--- a text passes the limit of one file: the first
-abbrev pub long_text : List FilePair → Option Status
-long_text texts = option_map (λ (text : FilePair). Limit FileBytes (length text.1)) (find (λ (text : FilePair). nat_lt (most FileBytes) (length text.1)) texts)
-
--- so many bytes and those of these texts pass the limit of all sources; the number is that up to and with the first text that passes it
-abbrev pub long_texts : ℕ → List FilePair → Option Status
-long_texts before [] = None
-long_texts before (text ∷ texts) =
-    if nat_lt (most SourceBytes) (before + length text.1) then Some (Limit SourceBytes (before + length text.1)) else long_texts (before + length text.1) texts
-
--- a tree passes the limit of height: the first
-abbrev pub tall_tree : List ℕ → Option Status
-tall_tree heights = option_map (Limit Height) (find (nat_lt (most Height)) heights)
-
-abbrev pub texts_refusal : List FilePair → List ℕ → Option Status
-texts_refusal texts heights = option_or (long_text texts) (option_or (long_texts 0 texts) (tall_tree heights))
+-- nothing refuses it, and these are the texts of its files in the one layout, with the heights of their trees as printed
+pub record HasTexts (base : List ℕ) (held : Contents) (texts : List FilePair) (heights : List ℕ) : Type 0 where
+  pub read : reading_refusal base held ≡ None
+  pub are : AreFormatted (base_files base held) texts heights
 
 -- # The command
 
--- the files of the base may be read, and these are their texts in the one layout with their heights
-pub record HasTexts (words : FmtWords) (held : Contents) (texts : List FilePair) (heights : List ℕ) : Type 0 where
-  pub read : reading_refusal words.base held ≡ None
-  pub are : AreFormatted (base_files words.base held) texts heights
-
 -- what refuses the command, in the order of a run
 pub data FmtRefuses (words : FmtWords) (held : Contents) (status : Status) : Type 0 where
-  reading : reading_refusal words.base held ≡ Some status → FmtRefuses words held status
-  source : reading_refusal words.base held ≡ None → RefuseSources (base_files words.base held) status → FmtRefuses words held status
-  occupied : (texts : List FilePair) (heights : List ℕ) → HasTexts words held texts heights → out_refusal words.out held ≡ Some status
+  base : BaseRefuses words.base held status → FmtRefuses words held status
+  occupied : (texts : List FilePair) (heights : List ℕ) → HasTexts words.base held texts heights → out_refusal words.out held ≡ Some status
       → FmtRefuses words held status
-  large : (texts : List FilePair) (heights : List ℕ) → HasTexts words held texts heights → out_refusal words.out held ≡ None
+  large : (texts : List FilePair) (heights : List ℕ) → HasTexts words.base held texts heights → out_refusal words.out held ≡ None
       → texts_refusal texts heights ≡ Some status → FmtRefuses words held status
 
--- files below a folder
-abbrev pub below : List ℕ → List FilePair → List FilePair
-below out files = map (λ (file : FilePair). (joined out file.0, file.1)) files
-
 abbrev pub fmt_outcome : List ℕ → List FilePair → Outcome
-fmt_outcome out texts = record { conflicts = []; files = below out texts; report = fmt_report (length texts) }
+fmt_outcome out texts = record { conflicts = 0; files = below out texts; report = fmt_report (length texts) }
 
 -- nothing refuses the command, and it comes to this
 pub record FmtComesTo (words : FmtWords) (held : Contents) (outcome : Outcome) : Type 0 where
   pub texts : List FilePair
   pub heights : List ℕ
-  pub has : HasTexts words held texts heights
+  pub has : HasTexts words.base held texts heights
   pub free : out_refusal words.out held ≡ None
   pub small : texts_refusal texts heights ≡ None
   pub is : outcome ≡ fmt_outcome words.out texts
 
 -- # What is made of it
 
--- a file is no source, and this is the answer
-abbrev pub RefusesSource : FilePair → Status → Type 0
+-- a file is no source, and this is why
+abbrev pub RefusesSource : FilePair → FormatFault → Type 0
 RefusesSource file OutOfMemory = ⊤
-RefusesSource file (BaseRefused (Source at fault)) = IsFaultOf file.1 fault × (at ≡ place_in file fault)
-RefusesSource file status = ⊥
+RefusesSource file (Base (Source at fault)) = IsFaultOf file.1 fault × (at ≡ place_in file fault)
 
 -- the first of these files that is none
-abbrev pub RefusesSources : List FilePair → Status → Type 0
+abbrev pub RefusesSources : List FilePair → FormatFault → Type 0
 RefusesSources files OutOfMemory = ⊤
-RefusesSources files (BaseRefused fault) = RefuseSources files (BaseRefused fault)
-RefusesSources files status = ⊥
+RefusesSources files (Base fault) = RefuseSources files (BaseRefused fault)
 
 abbrev pub IsTextWork : List ℕ → List FilePair → Work → Type 0
 IsTextWork out texts work = IsWork work (fmt_outcome out texts)
 
--- the command stops before the first write
-abbrev pub FmtStops : FmtWords → ℕ → ℕ → Option Contents → Status → Type 0
-FmtStops words before after held status = StopsBy (IsNamedByFmt words held) before after held (FmtRefuses words) status
+-- # What is written reads back
+
+-- each of these texts has the path of its file, and is the source of that file's tree as printed
+abbrev pub AreReadBack : List FilePair → List FilePair → Type 0
+AreReadBack [] [] = ⊤
+AreReadBack (file ∷ files) (text ∷ texts) = (text.0 ≡ file.0) × ReadsBack file.1 text.1 × AreReadBack files texts
+AreReadBack files texts = ⊥
+
+-- an outcome writes texts that read back as the files of the base, and that are in the one layout themselves
+pub record WritesSources (words : FmtWords) (held : Contents) (outcome : Outcome) : Type 0 where
+  pub texts : List FilePair
+  pub heights : List ℕ
+  pub files : outcome.files ≡ below words.out texts
+  pub read_back : AreReadBack (base_files words.base held) texts
+  pub settled : AreFormatted texts texts heights

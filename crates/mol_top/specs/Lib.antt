@@ -1,3 +1,4 @@
+pub mod Answers
 pub mod Carried
 pub mod Code
 pub mod Command
@@ -5,6 +6,7 @@ pub mod Files
 pub mod Formatting
 pub mod Outcome
 pub mod Output
+pub mod Outside
 pub mod Prepared
 pub mod Refusals
 pub mod Report

@@ -1,19 +1,19 @@
 -- What a run answers, writes and prints.
-use Rattle.std.specs.Prelude.{◌≡◌, ◌≢◌, ℕ, ◌<◌, ◌⊎◌, ⊤, List, [], length, Option, None, Some}
-use Rattle.std.specs.Option.{ForSome, IsSomeAnd}
+use Rattle.std.specs.Prelude.{◌≡◌, ◌≢◌, ℕ, ◌<◌, ◌⊎◌, ⊤, Bool, true, false, List, [], Option, None, Some, IsSomeAnd}
+use Rattle.std.specs.Option.{ForSome}
 use Rattle.mol_outside.specs.Contents.{Contents, appended, HasRisen}
-use Rattle.mol_table.specs.Program.{Program, nothing}
-use Rattle.mol_top.specs.Command.{Command}
-use Rattle.mol_top.specs.Formatting.{FmtRefuses, FmtComesTo}
+use Rattle.mol_top.specs.Command.{Command, paths_of}
+use Rattle.mol_top.specs.Formatting.{FmtRefuses, FmtComesTo, WritesSources}
+use Rattle.mol_top.specs.Outside.{Store, State}
+use Rattle.mol_top.specs.Output.{Outcome, written_all}
+use Rattle.mol_top.specs.Report.{names_addresses, refusal_line}
+use Rattle.mol_top.specs.Steps.{IsNamed, IsRefusal, IsFinal, HasFailed, HasPart, IsCutAt, IsUnreported}
+use Rattle.mol_top.specs.declared.status.Status.{Status}
+use Rattle.mol_top.specs.declared.status.Status.TheVariants.{Done, Conflicts, Usage, ReadFailed, WriteFailed, OutOfMemory}
+use Rattle.mol_top.specs.renames.ConflictReport.{merge_line}
 use Rattle.mol_top.specs.renames.Inputs.{base_of}
 use Rattle.mol_top.specs.renames.MergeOutcome.{MergeComesTo, IsSameSwapped}
-use Rattle.mol_top.specs.Output.{Outcome, written_all}
 use Rattle.mol_top.specs.renames.MergeRefusals.{refusal}
-use Rattle.mol_top.specs.Report.{refusal_line}
-use Rattle.mol_top.specs.Steps.{IsNamed, IsRefusal, HasPart, IsCutAt}
-use Rattle.mol_top.specs.declared.status.LogCause.TheVariants.{Replay}
-use Rattle.mol_top.specs.declared.status.Status.{Status}
-use Rattle.mol_top.specs.declared.status.Status.TheVariants.{Done, Conflicts, Usage, LogRefused, ReadFailed, WriteFailed, OutOfMemory}
 
 -- # What a command comes to
 
@@ -27,35 +27,28 @@ abbrev pub ComesTo : Command → Contents → Outcome → Type 0
 ComesTo (Command.merge words) held outcome = MergeComesTo words held outcome
 ComesTo (Command.fmt words) held outcome = FmtComesTo words held outcome
 
--- the base whose addresses its refusals name, where it has one
-abbrev pub named_base : Command → Contents → Program
-named_base (Command.merge words) held = base_of words held
-named_base (Command.fmt words) held = nothing
+-- the line of a refusal that names addresses of the base
+abbrev pub addresses_line : Command → Contents → Status → List ℕ
+addresses_line (Command.merge words) held status = merge_line (base_of words held) status
+addresses_line (Command.fmt words) held status = refusal_line status
+
+-- the words spell a command, and over what the store held, where it tells, it comes to what is so
+abbrev pub Comes : Option Command → Store → (Outcome → Type 0) → Type 0
+Comes c store P = IsSomeAnd c (λ c. ForSome store.held (λ h. (outcome : Outcome) × ComesTo c h outcome × P outcome))
 
 -- # Causes of answers
 
--- the counts of faults of a store and a sink
-pub record Faults : Type 0 where
-  pub reads : ℕ
-  pub writes : ℕ
-  pub sink : ℕ
-
--- what it comes to is so
-abbrev pub ComesToSuch : Command → Contents → (Outcome → Type 0) → Type 0
-ComesToSuch c held P = (outcome : Outcome) × ComesTo c held outcome × P outcome
-
 -- each answer has its cause, in the words and what the store holds, or in what the store and the sink did. Where the
 -- store does not tell what it holds, nothing is said of causes that lie there
-abbrev pub HasCause : Faults → Faults → Option Command → Option Contents → Status → Type 0
-HasCause before after c held OutOfMemory = ⊤
-HasCause before after c held (ReadFailed path) = IsSomeAnd c (λ c. HasRisen before.reads after.reads × IsNamed c held path)
-HasCause before after c held (WriteFailed path) =
-    ((path ≢ []) × HasRisen before.writes after.writes) ⊎ ((path ≡ []) × HasRisen before.sink after.sink)
-HasCause before after c held Usage = c ≡ None
-HasCause before after c held Done = IsSomeAnd c (λ c. ForSome held (λ h. ComesToSuch c h (λ outcome. outcome.conflicts ≡ [])))
-HasCause before after c held (Conflicts count) =
-    IsSomeAnd c (λ c. ForSome held (λ h. ComesToSuch c h (λ outcome. (count ≡ length outcome.conflicts) × (0 < count))))
-HasCause before after c held status = IsSomeAnd c (λ c. ForSome held (λ h. Refuses c h status))
+abbrev pub HasCause : Option Command → State → State → Status → Type 0
+HasCause c old new OutOfMemory = ⊤
+HasCause c old new (ReadFailed path) =
+    IsSomeAnd c (λ c. HasRisen old.store.reads new.store.reads × IsNamed (paths_of c) old.store.held path)
+HasCause c old new (WriteFailed path) = HasFailed old new path
+HasCause c old new Usage = c ≡ None
+HasCause c old new Done = Comes c old.store (λ outcome. outcome.conflicts ≡ 0)
+HasCause c old new (Conflicts count) = Comes c old.store (λ outcome. (count ≡ outcome.conflicts) × (0 < count))
+HasCause c old new status = IsSomeAnd c (λ c. ForSome old.store.held (λ h. Refuses c h status))
 
 -- # What is left of the store and the sink
 
@@ -65,53 +58,45 @@ WritesNothing Done = ⊥
 WritesNothing (WriteFailed path) = ⊥
 WritesNothing status = ⊤
 
--- the sink gained exactly the line of a refusal. The line of a fault names addresses of the base
-abbrev pub Says : Option Command → Option Contents → Status → Option (List ℕ) → Option (List ℕ) → Type 0
-Says c held Done old new = ⊤
-Says c held (Conflicts count) old new = ⊤
-Says c held (WriteFailed path) old new = ⊤
-Says c held (LogRefused which (Replay fault)) old new =
-    IsSomeAnd c (λ c. ForSome held (λ h. new ≡ appended (refusal_line (named_base c h) (LogRefused which (Replay fault))) old))
-Says c held status old new = new ≡ appended (refusal_line nothing status) old
+-- so is the line of a refusal. Where it names addresses, the words spell a command, and they are those of its base over what
+-- the store held, where it tells
+abbrev pub ByNames : Bool → Option Command → Store → Status → (List ℕ → Type 0) → Type 0
+ByNames true c store status P = IsSomeAnd c (λ c. ForSome store.held (λ h. P (addresses_line c h status)))
+ByNames false c store status P = P (refusal_line status)
 
--- where the answer is of this sort, the store and the sink have what the command comes to
-abbrev pub LeavesOutcome : Option Command → Option Contents → Option Contents → Option (List ℕ) → Option (List ℕ) → Status → Type 0
-LeavesOutcome c held now old new status = by_answer status where
-  left : Type 0
-  left = IsSomeAnd c (λ c. ForSome held (λ h. ComesToSuch c h (λ outcome. (now ≡ written_all outcome.files held) × (new ≡ appended outcome.report old))))
+abbrev pub HasLine : Option Command → Store → Status → (List ℕ → Type 0) → Type 0
+HasLine c store status P = ByNames (names_addresses status) c store status P
 
-  by_answer : Status → Type 0
-  by_answer Done = left
-  by_answer (Conflicts count) = left
-  by_answer status = ⊤
+-- the sink gained exactly the line of a refusal
+abbrev pub Says : Option Command → State → State → Status → Type 0
+Says c old new status = IsRefusal status → HasLine c old.store status (λ line. new.sink.given ≡ appended line old.sink.given)
+
+-- the store has the files that an outcome writes, and the sink its report
+pub record HasOutcome (old new : State) (outcome : Outcome) : Type 0 where
+  pub files : new.store.held ≡ written_all outcome.files old.store.held
+  pub report : new.sink.given ≡ appended outcome.report old.sink.given
+
+-- where all was written and printed, or logs conflict, the store and the sink have what the command comes to
+abbrev pub Leaves : Option Command → State → State → Status → Type 0
+Leaves c old new status = IsFinal status → Comes c old.store (HasOutcome old new)
 
 -- # A write that fails
 
--- all was written, and the put of the report failed
-pub record IsUnreported (outcome : Outcome) (held now : Option Contents) (old new : Option (List ℕ)) : Type 0 where
-  pub files : now ≡ written_all outcome.files held
-  pub report : HasPart outcome.report old new
-
--- the sink gained a part of the line of a refusal
-abbrev pub SaysPart : Option Command → Option Contents → Status → Option (List ℕ) → Option (List ℕ) → Type 0
-SaysPart c held (LogRefused which (Replay fault)) old new =
-    IsSomeAnd c (λ c. ForSome held (λ h. HasPart (refusal_line (named_base c h) (LogRefused which (Replay fault))) old new))
-SaysPart c held status old new = HasPart (refusal_line nothing status) old new
-
 -- the run was to end with a refusal, whose line was not put whole; nothing was written
-pub record WasRefusing (before after : Faults) (c : Option Command) (held now : Option Contents) (old new : Option (List ℕ)) : Type 0 where
+pub record WasRefusing (c : Option Command) (old new : State) : Type 0 where
   pub status : Status
   pub refuses : IsRefusal status
-  pub cause : HasCause before after c held status
-  pub kept : now ≡ held
-  pub part : SaysPart c held status old new
+  pub cause : HasCause c old new status
+  pub kept : new.store.held ≡ old.store.held
+  pub part : HasLine c old.store status (λ line. HasPart line old.sink new.sink)
 
--- what a write that failed leaves. Where the answer names a path, that of a file; where it names none, the put of what is printed
-abbrev pub LeavesPrefix : Faults → Faults → Option Command → Option Contents → Option Contents → Option (List ℕ) → Option (List ℕ) → Status → Type 0
-LeavesPrefix before after c held now old new (WriteFailed path) =
-    (path ≢ [] → IsSomeAnd c (λ c. ForSome held (λ h. ComesToSuch c h (λ outcome. IsCutAt outcome.files path held now (HasRisen before.sink after.sink) old new))))
-    × (path ≡ [] → IsSomeAnd c (λ c. ForSome held (λ h. ComesToSuch c h (λ outcome. IsUnreported outcome held now old new))) ⊎ WasRefusing before after c held now old new)
-LeavesPrefix before after c held now old new status = ⊤
+-- where a write failed, what is left is a prefix of what was to be written and printed. Where the answer names a path, it was
+-- the write of that file; where it names none, the put of what is printed
+abbrev pub IsPrefix : Option Command → State → State → Status → Type 0
+IsPrefix c old new (WriteFailed path) =
+    (path ≢ [] → Comes c old.store (λ outcome. IsCutAt outcome.files path old new))
+    × (path ≡ [] → Comes c old.store (λ outcome. IsUnreported outcome.files outcome.report old new) ⊎ WasRefusing c old new)
+IsPrefix c old new status = ⊤
 
 -- # Either order
 
@@ -119,3 +104,10 @@ LeavesPrefix before after c held now old new status = ⊤
 abbrev pub IsSameInEitherOrder : Command → Contents → Type 0
 IsSameInEitherOrder (Command.merge words) held = refusal words held ≡ None → IsSameSwapped words held
 IsSameInEitherOrder (Command.fmt words) held = ⊤
+
+-- # Reading back
+
+-- whatever `fmt` comes to, its files read back as those of the base, and formatted again they stay as they are
+abbrev pub FilesReadBack : Command → Contents → Type 0
+FilesReadBack (Command.merge words) held = ⊤
+FilesReadBack (Command.fmt words) held = (outcome : Outcome) → FmtComesTo words held outcome → WritesSources words held outcome

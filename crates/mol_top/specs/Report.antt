@@ -1,5 +1,5 @@
 -- What a run prints.
-use Rattle.std.specs.Prelude.{ℕ, List, [], ◌∷◌, ◌++◌, codes, Option, None, Some}
+use Rattle.std.specs.Prelude.{ℕ, Bool, true, false, List, [], ◌∷◌, ◌++◌, codes, Option, None, Some}
 use Rattle.std.specs.Fmt.{decimal}
 use Rattle.jav_rules.specs.Features.{name as feature_name}
 use Rattle.jav_rules.specs.declared.feature.Feature.{Feature}
@@ -8,13 +8,11 @@ use Rattle.mol_base.specs.declared.limit.Which.{Which}
 use Rattle.mol_base.specs.declared.limit.Which.TheVariants as limits
 use Rattle.mol_source.specs.FaultTexts.{name, feature}
 use Rattle.mol_source.specs.declared.fault.SourceFault.{SourceFault}
-use Rattle.mol_table.specs.Program.{Program}
-use Rattle.mol_top.specs.renames.ConflictReport.{fault_text}
+use Rattle.mol_top.specs.declared.refusal.Line.{Line}
+use Rattle.mol_top.specs.declared.refusal.Line.TheVariants.{Fixed, Made}
 use Rattle.mol_top.specs.declared.status.BaseFault.{BaseFault}
 use Rattle.mol_top.specs.declared.status.BaseFault.TheVariants.{Source}
-use Rattle.mol_top.specs.declared.status.LogCause.{LogCause}
 use Rattle.mol_top.specs.declared.status.LogCause.TheVariants.{SharedTag, Replay}
-use Rattle.mol_top.specs.declared.status.ReplayFault.TheVariants.{NotClean}
 use Rattle.mol_top.specs.declared.status.Status.{Status}
 use Rattle.mol_top.specs.declared.status.Status.TheVariants.{Done, Conflicts, Usage, BaseRefused, LogRefused, ReadFailed, Missing, WriteFailed, OutOfMemory, OutInUse, Limit, NotBuilt}
 
@@ -48,22 +46,32 @@ limit_text limits.Operations = codes "operations"
 limit_text limits.LogBytes = codes "log-bytes"
 limit_text limits.ScriptBytes = codes "script-bytes"
 
--- why a log is refused; the addresses are those in the base
-abbrev pub cause_text : Program → LogCause → List ℕ
-cause_text base (SharedTag tag) = codes "shared-tag " ++ tag
-cause_text base (Replay (NotClean fault)) = codes "not-clean " ++ fault_text base fault
+-- the line of a refused log: its number, and why
+abbrev pub log_line : ℕ → List ℕ → List ℕ
+log_line which cause = codes "log " ++ decimal which ++ 32 ∷ cause ++ 10 ∷ []
 
--- the line of a refusal, over a base where there is one
-abbrev pub refusal_line : Program → Status → List ℕ
-refusal_line base Done = []
-refusal_line base (Conflicts count) = []
-refusal_line base Usage = codes "usage: molref fmt BASE OUT\nusage: molref merge BASE LOG1 LOG2 OUT\n"
-refusal_line base (BaseRefused fault) = codes "base " ++ base_fault_text fault ++ 10 ∷ []
-refusal_line base (LogRefused which cause) = codes "log " ++ decimal which ++ 32 ∷ cause_text base cause ++ 10 ∷ []
-refusal_line base (ReadFailed path) = codes "read-failed " ++ path ++ 10 ∷ []
-refusal_line base (Missing path) = codes "missing " ++ path ++ 10 ∷ []
-refusal_line base (WriteFailed path) = codes "write-failed " ++ path ++ 10 ∷ []
-refusal_line base OutOfMemory = codes "out-of-memory\n"
-refusal_line base (OutInUse path) = codes "out-in-use " ++ path ++ 10 ∷ []
-refusal_line base (Limit which count) = codes "limit " ++ limit_text which ++ 32 ∷ decimal count ++ 10 ∷ []
-refusal_line base (NotBuilt path) = codes "not-built " ++ path ++ 10 ∷ []
+-- the line of a refusal names addresses of the base: then its command makes it
+abbrev pub names_addresses : Status → Bool
+names_addresses (LogRefused which (Replay fault)) = true
+names_addresses status = false
+
+-- the line of any other refusal
+abbrev pub refusal_line : Status → List ℕ
+refusal_line Done = []
+refusal_line (Conflicts count) = []
+refusal_line Usage = codes "usage: molref fmt BASE OUT\nusage: molref merge BASE LOG1 LOG2 OUT\n"
+refusal_line (BaseRefused fault) = codes "base " ++ base_fault_text fault ++ 10 ∷ []
+refusal_line (LogRefused which (SharedTag tag)) = log_line which (codes "shared-tag " ++ tag)
+refusal_line (LogRefused which (Replay fault)) = []
+refusal_line (ReadFailed path) = codes "read-failed " ++ path ++ 10 ∷ []
+refusal_line (Missing path) = codes "missing " ++ path ++ 10 ∷ []
+refusal_line (WriteFailed path) = codes "write-failed " ++ path ++ 10 ∷ []
+refusal_line OutOfMemory = codes "out-of-memory\n"
+refusal_line (OutInUse path) = codes "out-in-use " ++ path ++ 10 ∷ []
+refusal_line (Limit which count) = codes "limit " ++ limit_text which ++ 32 ∷ decimal count ++ 10 ∷ []
+refusal_line (NotBuilt path) = codes "not-built " ++ path ++ 10 ∷ []
+
+-- the bytes of a line that is printed
+abbrev pub line_bytes : Line → List ℕ
+line_bytes (Fixed bytes) = bytes.now
+line_bytes (Made bytes) = bytes.items

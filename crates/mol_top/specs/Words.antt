@@ -11,6 +11,12 @@ merge_words given = record { base = given.base.now; first = given.first.now; sec
 abbrev pub fmt_words : FmtWords → words.FmtWords
 fmt_words given = record { base = given.base.now; out = given.out.now }
 
+abbrev pub merge_command : MergeWords → words.Command
+merge_command given = words.Command.merge (merge_words given)
+
+abbrev pub fmt_command : FmtWords → words.Command
+fmt_command given = words.Command.fmt (fmt_words given)
+
 abbrev pub command_of : Command → words.Command
-command_of (Merge given) = words.Command.merge (merge_words given)
-command_of (Fmt given) = words.Command.fmt (fmt_words given)
+command_of (Merge given) = merge_command given
+command_of (Fmt given) = fmt_command given

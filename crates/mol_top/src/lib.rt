@@ -3,8 +3,10 @@
 
 mod append;
 mod command;
+mod fault;
 mod formatting;
 mod output;
+mod refusal;
 mod renames;
 mod report;
 mod running;

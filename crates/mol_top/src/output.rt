@@ -1,20 +1,21 @@
 //! Refusing, and carrying out what was made.
-ghost use Rattle.std.specs.Prelude.{List as Items, ◌≡◌, ◌≤◌, ◌<◌, ℕ, [], length, map, take, slice_get, Some, IfOk, IfErr, OnOk, OnErr};
-ghost use Rattle.std.specs.List.{All};
-ghost use Rattle.mol_outside.specs.Contents.{HasRisen, appended, elsewhere};
-ghost use Rattle.mol_table.specs.Program.{nothing};
-ghost use Rattle.mol_top.specs.Formatting.{below as below_of};
-ghost use Rattle.mol_top.specs.Output.{failure_of, written_all};
-ghost use Rattle.mol_top.specs.Report.{refusal_line as line_for};
+ghost use Rattle.std.specs.Prelude.{List as Items, ◌≡◌, ◌≤◌, ◌<◌, ℕ, length, map, take, slice_get, None, Some, IfOk, IfErr, OnOk, OnErr};
+ghost use Rattle.mol_outside.specs.Contents.{HasRisen, appended};
+ghost use Rattle.mol_top.specs.Answers.{limit_status};
+ghost use Rattle.mol_top.specs.Carried.{IsAbove};
 ghost use Rattle.mol_top.specs.Files.{file_pairs};
-ghost use Rattle.mol_top.specs.Steps.{AnsweredAs, IsCarriedOut, IsFinal, IsLeft, IsPutInPart, IsPutOrCut, IsRefusal, IsWriteFailed};
+ghost use Rattle.mol_top.specs.Output.{IsReady, below as below_of, failure_of, written_all};
+ghost use Rattle.mol_top.specs.Output.{long_text, long_texts, tall_tree, texts_refusal};
+ghost use Rattle.mol_top.specs.Outside.{sink, state, store};
+ghost use Rattle.mol_top.specs.Report.{line_bytes, refusal_line as line_for};
+ghost use Rattle.mol_top.specs.Steps.{AnsweredAs, HasPart, IsCarriedOut, IsFinal, IsLeft, IsPutOrCut, IsRefusal, IsWriteFailed, StopsAt};
 
 use crate::Status;
-use crate::report::refusal_line;
+use crate::fault::LimitFault;
+use crate::refusal::Refusal;
 use crate::store::join;
-use mol_base::{File, List, OutOfMemory, Text};
+use mol_base::{File, List, OutOfMemory, Text, Which};
 use mol_outside::{Files, Sink};
-use mol_table::Table;
 use std::alloc::Global;
 
 /// All that a run writes and prints, made before the first write.
@@ -29,37 +30,19 @@ pub struct Work {
     pub report: Vec<u8>,
 }
 
-/// Why a command stops before the first write.
-#[derive(Drop)]
-pub struct Refusal {
-    pub status: Status,
-    /// The program whose addresses the line of the refusal names; without classes where it names none.
-    pub base: Table,
-}
-
-/// Prints the line of a refusal. `base` is the program of the base, where it was read.
-pub fn refuse<S: Sink>(alloc: Global, base: &Table, status: Status, out: &mut S) -> Status
-    requires { IsRefusal status }
-    ensures answer { AnsweredAs (S.faults out.old) (S.faults out.new) status result }
-    ensures line { IsRefusal result → S.written out.new ≡ appended (line_for base.now result) (S.written out.old) }
-    ensures part { IsWriteFailed result → IsPutInPart base.now status (S.written out.old) (S.written out.new) }
+/// Prints the line of a refusal. It takes no memory.
+pub fn refuse<S: Sink>(alloc: Global, refusal: Refusal, out: &mut S) -> Status
+    requires { IsRefusal refusal.status }
+    ensures answer { AnsweredAs (sink S.Sink out.old) (sink S.Sink out.new) refusal.status result }
+    ensures line { IsRefusal result → S.written out.new ≡ appended (line_bytes refusal.line) (S.written out.old) }
+    ensures part { IsWriteFailed result → HasPart (line_bytes refusal.line) (sink S.Sink out.old) (sink S.Sink out.new) }
     ensures later { S.faults out.old ≤ S.faults out.new }
 {
-    match refusal_line(alloc, base, &status) {
-        Ok(line) => {
-            if out.put(line.as_slice()).is_ok() {
-                status
-            } else {
-                Status::WriteFailed(Text::empty(alloc))
-            }
-        }
-        Err(OutOfMemory) => {
-            if out.put(b"out-of-memory\n").is_ok() {
-                Status::OutOfMemory
-            } else {
-                Status::WriteFailed(Text::empty(alloc))
-            }
-        }
+    let Refusal { status, line } = refusal;
+    if out.put(line.bytes()).is_ok() {
+        status
+    } else {
+        Status::WriteFailed(Text::empty(alloc))
     }
 }
 
@@ -77,7 +60,7 @@ pub fn failure_lines(alloc: Global, files: &[File]) -> Result<Vec<List<u8>>, Out
 
 /// The line that names a file whose write failed.
 fn failure_line(alloc: Global, path: &Text) -> Result<List<u8>, OutOfMemory>
-    ensures { IfOk result (λ line. line ≡ line_for nothing (Status.WriteFailed path.now)) }
+    ensures { IfOk result (λ line. line ≡ line_for (Status.WriteFailed path.now)) }
 {
     let line = format!(in alloc; "write-failed {}\n", path.as_str())?;
     Ok(List::from_vec(line.into_bytes()))
@@ -86,7 +69,7 @@ fn failure_line(alloc: Global, path: &Text) -> Result<List<u8>, OutOfMemory>
 /// Puts the line that names the file of a failed write. It may be put in part.
 fn put_failure<S: Sink>(lines: &[List<u8>], place: usize, out: &mut S)
     requires { place < length lines.now }
-    ensures line { (line : Items ℕ) → slice_get lines.now place ≡ Some line → IsPutOrCut line (HasRisen (S.faults out.old) (S.faults out.new)) (S.written out.old) (S.written out.new) }
+    ensures line { (line : Items ℕ) → slice_get lines.now place ≡ Some line → IsPutOrCut line (sink S.Sink out.old) (sink S.Sink out.new) }
     ensures later { S.faults out.old ≤ S.faults out.new }
 {
     match out.put(lines[place].items()) {
@@ -97,15 +80,11 @@ fn put_failure<S: Sink>(lines: &[List<u8>], place: usize, out: &mut S)
 
 /// Writes what was made, and prints the report. It takes no memory.
 pub fn carry_out<F: Files, S: Sink>(alloc: Global, work: Work, files: &mut F, out: &mut S) -> Status
-    requires named { All (λ (file : File). 0 < length file.path) work.files.items }
-    requires apart { 0 < work.conflicts → work.files.items ≡ [] }
-    requires failures { work.failures.items ≡ map failure_of work.files.items }
-    ensures answer { IsCarriedOut work.conflicts
-        (HasRisen (F.write_faults files.old) (F.write_faults files.new)) (HasRisen (S.faults out.old) (S.faults out.new)) result }
+    requires { IsReady work }
+    ensures answer { IsCarriedOut work (state F.Files S.Sink files.old out.old) (state F.Files S.Sink files.new out.new) result }
     ensures files { IsFinal result → F.holds files.new ≡ written_all (file_pairs work.files.items) (F.holds files.old) }
     ensures report { IsFinal result → S.written out.new ≡ appended work.report.items (S.written out.old) }
-    ensures left { IsLeft (file_pairs work.files.items) work.report.items (F.holds files.old) (F.holds files.new)
-        (HasRisen (S.faults out.old) (S.faults out.new)) (S.written out.old) (S.written out.new) result }
+    ensures left { IsLeft work (state F.Files S.Sink files.old out.old) (state F.Files S.Sink files.new out.new) result }
     ensures reads { F.read_faults files.new ≡ F.read_faults files.old }
     ensures writes { F.write_faults files.old ≤ F.write_faults files.new }
     ensures later { S.faults out.old ≤ S.faults out.new }
@@ -137,8 +116,7 @@ pub fn write_all<F: Files>(list: &[File], files: &mut F) -> Result<(), usize>
     ensures failed { OnErr result (HasRisen (F.write_faults files.old) (F.write_faults files.new)) }
     ensures writes { F.write_faults files.old ≤ F.write_faults files.new }
     ensures reads { F.read_faults files.new ≡ F.read_faults files.old }
-    ensures part { IfErr result (λ k. (file : File) × (slice_get list.now k ≡ Some file)
-        × (elsewhere file.path (F.holds files.new) ≡ elsewhere file.path (written_all (file_pairs (take k list.now)) (F.holds files.old)))) }
+    ensures part { IfErr result (λ k. StopsAt list.now k (store F.Files files.old) (store F.Files files.new)) }
 {
     for (k, file) in list.iter().enumerate() {
         if files.write(&file.path, file.bytes.items()).is_err() {
@@ -159,4 +137,71 @@ pub fn below(alloc: Global, out: &Text, files: Vec<File>) -> Result<Vec<File>, O
         list.push(File { path, bytes })?;
     }
     Ok(list)
+}
+
+/// Refuses sources that pass a limit, with the heights of their trees as printed: first the bytes of each, then those of
+/// all together, then the heights.
+pub fn refuse_large(texts: &[File], heights: &[u32]) -> Result<(), LimitFault>
+    ensures allowed { OnOk result (texts_refusal (file_pairs texts.now) heights.now ≡ None) }
+    ensures refused { IfErr result (λ fault. texts_refusal (file_pairs texts.now) heights.now ≡ Some (limit_status fault)) }
+    ensures above { IfErr result IsAbove }
+{
+    refuse_long_text(texts)?;
+    refuse_long_texts(texts)?;
+    refuse_tall_tree(heights)
+}
+
+/// Refuses the first text that passes the limit of one file.
+fn refuse_long_text(texts: &[File]) -> Result<(), LimitFault>
+    ensures allowed { OnOk result (long_text (file_pairs texts.now) ≡ None) }
+    ensures refused { IfErr result (λ fault. long_text (file_pairs texts.now) ≡ Some (limit_status fault)) }
+    ensures above { IfErr result IsAbove }
+{
+    for text in texts {
+        let number = text.bytes.items().len() as u64;
+        if number > Which::FileBytes.most() {
+            return Err(LimitFault {
+                which: Which::FileBytes,
+                number,
+            });
+        }
+    }
+    Ok(())
+}
+
+/// Refuses texts that pass the limit of all files together.
+fn refuse_long_texts(texts: &[File]) -> Result<(), LimitFault>
+    ensures allowed { OnOk result (long_texts 0 (file_pairs texts.now) ≡ None) }
+    ensures refused { IfErr result (λ fault. long_texts 0 (file_pairs texts.now) ≡ Some (limit_status fault)) }
+    ensures above { IfErr result IsAbove }
+{
+    let mut total: u64 = 0;
+    for text in texts {
+        total += text.bytes.items().len() as u64;
+        if total > Which::SourceBytes.most() {
+            return Err(LimitFault {
+                which: Which::SourceBytes,
+                number: total,
+            });
+        }
+    }
+    Ok(())
+}
+
+/// Refuses the first height that passes the limit of a tree.
+fn refuse_tall_tree(heights: &[u32]) -> Result<(), LimitFault>
+    ensures allowed { OnOk result (tall_tree heights.now ≡ None) }
+    ensures refused { IfErr result (λ fault. tall_tree heights.now ≡ Some (limit_status fault)) }
+    ensures above { IfErr result IsAbove }
+{
+    for height in heights {
+        let number = u64::from(*height);
+        if number > Which::Height.most() {
+            return Err(LimitFault {
+                which: Which::Height,
+                number,
+            });
+        }
+    }
+    Ok(())
 }

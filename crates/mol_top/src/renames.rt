@@ -27,5 +27,4 @@ mod work;
 pub use conflict::{Conflict, ConflictKind};
 pub use fault::Fault;
 pub use log::{Entry, Log, Op, RenameClass};
-pub use report::push_fault;
 pub use work::prepare_merge;

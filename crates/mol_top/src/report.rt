@@ -1,17 +1,13 @@
 //! What a run prints.
-ghost use Rattle.std.specs.Prelude.{◌≡◌, ◌++◌, ◌∷◌, [], IfOk, OnOk};
-ghost use Rattle.mol_source.specs.FaultTexts as faults;
-ghost use Rattle.jav_rules.specs.Features.{name as feature_name};
-ghost use Rattle.mol_top.specs.Report.{fmt_report as fmt_report_of, refusal_line as refusal_line_of, base_fault_text, cause_text, limit_text, place_text, source_fault_text};
-ghost use Rattle.std.specs.Prelude.{codes};
+ghost use Rattle.std.specs.Prelude.{◌≡◌, ◌++◌, ◌∷◌, [], codes, IfOk, OnOk};
 ghost use Rattle.std.specs.Fmt.{decimal};
+ghost use Rattle.mol_top.specs.Report.{base_fault_text, fmt_report as fmt_report_of, limit_text, log_line as log_line_of, place_text};
+ghost use Rattle.mol_top.specs.Report.{refusal_line as refusal_line_of, source_fault_text};
 
 use crate::append::push_number;
-use crate::renames::push_fault;
-use crate::status::{BaseFault, LogCause, ReplayFault, Status};
+use crate::status::{BaseFault, LogCause, Status};
 use mol_base::{OutOfMemory, Place, Tag, Text, Which};
 use mol_source::SourceFault;
-use mol_table::Table;
 use std::alloc::Global;
 
 /// A line for each command.
@@ -27,15 +23,17 @@ pub fn fmt_report(alloc: Global, files: usize) -> Result<Vec<u8>, OutOfMemory>
     Ok(report)
 }
 
-/// The line of a refusal, over the base whose addresses it names; no byte where nothing is refused.
-pub fn refusal_line(alloc: Global, base: &Table, status: &Status) -> Result<Vec<u8>, OutOfMemory>
-    ensures { IfOk result (λ line. line.items ≡ refusal_line_of base.now status.now) }
+/// The line of a refusal that names no address of a base; no byte where nothing is refused, or where it names one and its
+/// command makes it.
+pub fn refusal_line(alloc: Global, status: &Status) -> Result<Vec<u8>, OutOfMemory>
+    ensures { IfOk result (λ line. line.items ≡ refusal_line_of status.now) }
 {
     match status {
         Status::Done | Status::Conflicts(_) => Ok(Vec::new(alloc)),
         Status::Usage => Ok(Vec::from_slice(alloc, USAGE)?),
         Status::BaseRefused(fault) => base_line(alloc, fault),
-        Status::LogRefused(which, cause) => log_line(alloc, base, *which, cause),
+        Status::LogRefused(which, LogCause::SharedTag(tag)) => shared_tag_line(alloc, *which, tag),
+        Status::LogRefused(_, LogCause::Replay(_)) => Ok(Vec::new(alloc)),
         Status::ReadFailed(path) => path_line(alloc, b"read-failed ", path),
         Status::Missing(path) => path_line(alloc, b"missing ", path),
         Status::WriteFailed(path) => path_line(alloc, b"write-failed ", path),
@@ -98,49 +96,25 @@ fn push_fault_name(out: &mut Vec<u8>, fault: &SourceFault) -> Result<(), OutOfMe
     Ok(())
 }
 
-/// The line of a refused log.
-fn log_line(
-    alloc: Global,
-    base: &Table,
-    which: u8,
-    cause: &LogCause,
-) -> Result<Vec<u8>, OutOfMemory>
-    ensures { IfOk result (λ line. line.items ≡ codes "log " ++ decimal which ++ 32 ∷ cause_text base.now cause.now ++ 10 ∷ []) }
+/// The line of a log that has the tag of the log before it.
+fn shared_tag_line(alloc: Global, which: u8, tag: &Tag) -> Result<Vec<u8>, OutOfMemory>
+    ensures { IfOk result (λ line. line.items ≡ log_line_of which (codes "shared-tag " ++ tag.now)) }
+{
+    let mut cause = Vec::from_slice(alloc, b"shared-tag ")?;
+    cause.extend_from_slice(tag.bytes())?;
+    log_line(alloc, which, cause.as_slice())
+}
+
+/// The line of a refused log: its number, and why.
+pub fn log_line(alloc: Global, which: u8, cause: &[u8]) -> Result<Vec<u8>, OutOfMemory>
+    ensures { IfOk result (λ line. line.items ≡ log_line_of which cause.now) }
 {
     let mut line = Vec::from_slice(alloc, b"log ")?;
     push_number(alloc, &mut line, u64::from(which))?;
     line.push(b' ')?;
-    push_cause(alloc, &mut line, base, cause)?;
+    line.extend_from_slice(cause)?;
     line.push(b'\n')?;
     Ok(line)
-}
-
-/// Appends why a log is refused.
-fn push_cause(
-    alloc: Global,
-    out: &mut Vec<u8>,
-    base: &Table,
-    cause: &LogCause,
-) -> Result<(), OutOfMemory>
-    ensures { OnOk result (out.new.items ≡ out.old.items ++ cause_text base.now cause.now) }
-{
-    match cause {
-        LogCause::SharedTag(tag) => push_shared_tag(out, tag),
-        LogCause::Replay(ReplayFault::NotClean(fault)) => {
-            out.extend_from_slice(b"not-clean ")?;
-            push_fault(alloc, out, base, fault)?;
-            Ok(())
-        }
-    }
-}
-
-/// Appends that both logs have this tag.
-fn push_shared_tag(out: &mut Vec<u8>, tag: &Tag) -> Result<(), OutOfMemory>
-    ensures { OnOk result (out.new.items ≡ out.old.items ++ (codes "shared-tag " ++ tag.now)) }
-{
-    out.extend_from_slice(b"shared-tag ")?;
-    out.extend_from_slice(tag.bytes())?;
-    Ok(())
 }
 
 /// The line of a limit and the number that passes it.

@@ -1,22 +1,23 @@
 //! One command, from its words to its answer.
-ghost use Rattle.std.specs.Prelude.{◌≡◌, ◌≤◌, IfOk, IfErr};
+ghost use Rattle.std.specs.Prelude.{◌≡◌, IfOk, IfErr};
 ghost use Rattle.std.specs.Option.{ForSome};
 ghost use Rattle.mol_outside.specs.Contents.{Contents};
 ghost use Rattle.mol_top.specs.Carried.{CarriesOwn};
-ghost use Rattle.mol_top.specs.Command.{command};
-ghost use Rattle.mol_top.specs.Outcome.{HasCause, WritesNothing, Says, LeavesOutcome, LeavesPrefix, IsSameInEitherOrder};
+ghost use Rattle.mol_top.specs.Command.{command, paths_of};
+ghost use Rattle.mol_top.specs.Outcome.{HasCause, WritesNothing, Says, Leaves, IsPrefix, FilesReadBack, IsSameInEitherOrder};
 ghost use Rattle.mol_top.specs.Output.{IsReady};
-ghost use Rattle.mol_top.specs.Prepared.{IsPrepared, IsStopped};
+ghost use Rattle.mol_top.specs.Outside.{OnlyReads, state, store};
+ghost use Rattle.mol_top.specs.Prepared.{IsStopped, Prepares};
 ghost use Rattle.mol_top.specs.Words.{command_of};
 
 use crate::Status;
 use crate::command::{Command, parse};
 use crate::formatting::prepare_fmt;
-use crate::output::{Refusal, Work, carry_out, refuse};
+use crate::output::{Work, carry_out, refuse};
+use crate::refusal::Refusal;
 use crate::renames::prepare_merge;
 use mol_base::{List, Text};
 use mol_outside::{Files, Sink};
-use mol_table::Table;
 use std::alloc::Global;
 
 /// Runs one command over a store of files and a sink for what is printed.
@@ -32,36 +33,33 @@ pub fn run<F: Files, S: Sink>(
     out: &mut S,
 ) -> Status
     // Each answer has its cause.
-    ensures cause { HasCause
-        (record { reads = F.read_faults files.old; writes = F.write_faults files.old; sink = S.faults out.old })
-        (record { reads = F.read_faults files.new; writes = F.write_faults files.new; sink = S.faults out.new })
-        (command words.now) (F.holds files.old) result }
+    ensures cause { HasCause (command words.now) (state F.Files S.Sink files.old out.old) (state F.Files S.Sink files.new out.new) result }
 
     // What was not read, is missing or is in use has a path of the command, whatever the store tells; a number is above its limit.
-    ensures carries { ForSome (command words.now) (λ c. CarriesOwn c result) }
+    ensures carries { ForSome (command words.now) (λ c. CarriesOwn (paths_of c) result) }
 
     // Without success no file is written.
     ensures kept { WritesNothing result → F.holds files.new ≡ F.holds files.old }
 
     // A refusal prints its line.
-    ensures line { Says (command words.now) (F.holds files.old) result (S.written out.old) (S.written out.new) }
+    ensures line { Says (command words.now) (state F.Files S.Sink files.old out.old) (state F.Files S.Sink files.new out.new) result }
 
     // A command leaves its files and its report, and conflicts leave theirs.
-    ensures outcome { LeavesOutcome (command words.now) (F.holds files.old) (F.holds files.new) (S.written out.old) (S.written out.new) result }
+    ensures outcome { Leaves (command words.now) (state F.Files S.Sink files.old out.old) (state F.Files S.Sink files.new out.new) result }
 
     // A write that fails leaves a prefix.
-    ensures prefix { LeavesPrefix
-        (record { reads = F.read_faults files.old; writes = F.write_faults files.old; sink = S.faults out.old })
-        (record { reads = F.read_faults files.new; writes = F.write_faults files.new; sink = S.faults out.new })
-        (command words.now) (F.holds files.old) (F.holds files.new) (S.written out.old) (S.written out.new) result }
+    ensures prefix { IsPrefix (command words.now) (state F.Files S.Sink files.old out.old) (state F.Files S.Sink files.new out.new) result }
+
+    // What `fmt` writes reads back as the sources of the base, and is in the one layout itself.
+    ensures read_back { ForSome (command words.now) (λ c. (held : Contents) → FilesReadBack c held) }
 
     // The other order of the logs of a merge comes to the same.
     ensures either_order { ForSome (command words.now) (λ c. (held : Contents) → IsSameInEitherOrder c held) }
 {
     match parse(words.items()) {
-        None => refuse(alloc, &Table::new(alloc), Status::Usage, out),
+        None => refuse(alloc, Refusal::usage(), out),
         Some(command) => match prepare(alloc, command, files) {
-            Err(Refusal { status, base }) => refuse(alloc, &base, status, out),
+            Err(refusal) => refuse(alloc, refusal, out),
             Ok(work) => carry_out(alloc, work, files, out),
         },
     }
@@ -69,22 +67,17 @@ pub fn run<F: Files, S: Sink>(
 
 /// All that a command writes and prints. Nothing is written.
 fn prepare<F: Files>(alloc: Global, command: Command<'_>, files: &mut F) -> Result<Work, Refusal>
-    ensures holds { F.holds files.new ≡ F.holds files.old }
-    ensures reads { F.read_faults files.old ≤ F.read_faults files.new }
-    ensures writes { F.write_faults files.new ≡ F.write_faults files.old }
+    ensures only_reads { OnlyReads (store F.Files files.old) (store F.Files files.new) }
     ensures ready { IfOk result IsReady }
-    ensures work { IfOk result (λ work. ForSome (F.holds files.old) (λ held. IsPrepared (command_of command.entry) held work)) }
-    ensures stop { IfErr result (IsStopped (command_of command.entry) (F.holds files.old) (F.read_faults files.old) (F.read_faults files.new)) }
-    ensures carries { IfErr result (λ refusal. CarriesOwn (command_of command.entry) refusal.status) }
+    ensures work { IfOk result (Prepares (command_of command.entry) (store F.Files files.old)) }
+    ensures stop { IfErr result (IsStopped (command_of command.entry) (store F.Files files.old) (store F.Files files.new)) }
+    ensures carries { IfErr result (λ refusal. CarriesOwn (paths_of (command_of command.entry)) refusal.status) }
 {
     match command {
         Command::Merge(words) => prepare_merge(alloc, words, files),
         Command::Fmt(words) => match prepare_fmt(alloc, words, files) {
             Ok(work) => Ok(work),
-            Err(status) => Err(Refusal {
-                status,
-                base: Table::new(alloc),
-            }),
+            Err(status) => Err(Refusal::of(alloc, status)),
         },
     }
 }

@@ -2,7 +2,6 @@
 use crate::Fault;
 use mol_base::{OutOfMemory, Place, Tag, Text, Which};
 use mol_source::SourceFault;
-use std::alloc::{AllocError, AllocFailed};
 
 /// Why a log does not replay on its base.
 #[derive(Debug, Drop)]
@@ -86,28 +85,6 @@ impl From<OutOfMemory> for Status {
     ghost from_gives = { λ _ status. status ≡ Wants };
 
     fn from(_: OutOfMemory) -> Status {
-        Status::OutOfMemory
-    }
-}
-
-impl From<AllocError> for Status {
-    ghost use Rattle.std.specs.Prelude.{◌≡◌};
-    ghost use Rattle.mol_top.specs.declared.status.Status.TheVariants.{OutOfMemory as Wants};
-
-    ghost from_gives = { λ _ status. status ≡ Wants };
-
-    fn from(_: AllocError) -> Status {
-        Status::OutOfMemory
-    }
-}
-
-impl<T: Drop> From<AllocFailed<T>> for Status {
-    ghost use Rattle.std.specs.Prelude.{◌≡◌};
-    ghost use Rattle.mol_top.specs.declared.status.Status.TheVariants.{OutOfMemory as Wants};
-
-    ghost from_gives = { λ _ status. status ≡ Wants };
-
-    fn from(_: AllocFailed<T>) -> Status {
         Status::OutOfMemory
     }
 }

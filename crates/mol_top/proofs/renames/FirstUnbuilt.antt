@@ -1,29 +1,21 @@
 -- Files read in turn, up to the first that is not of the built form.
-use Rattle.std.proofs.Common.{◌≡◌, ℕ, ◌+◌, ◌<◌, suc, Bool, true, false, not, cond, List, [], ◌∷◌, ◌++◌, length, take, drop, get_or, Option, Some, None, is_none, ltb, refl, sym, ap, ◌∙◌, arith}
-use Rattle.std.specs.List.{find, position, position_or_len, list_all, filter_map, cons_option}
-use Rattle.std.proofs.lemmas.List.{take_more, length-take-le, length-map, map-append}
-use Rattle.std.proofs.lemmas.Bool.{lt-ltb}
-use Rattle.std.proofs.Math.Seq.{drop-cons, get_or-append_seam}
+use Rattle.std.proofs.Common.{◌≡◌, ℕ, ◌+◌, ◌<◌, suc, Bool, true, false, cond, List, [], ◌∷◌, ◌++◌, length, take, drop, get_or, Option, Some, None, is_none, option_map, refl, sym, ap, ◌∙◌}
+use Rattle.std.specs.List.{find, filter_map, cons_option}
+use Rattle.std.proofs.lemmas.List.{take_more, map-append}
+use Rattle.std.proofs.Math.Seq.{drop-cons}
 use Rattle.std.proofs.Math.ListN.{take-append-drop}
-use Rattle.std.proofs.lemmas.Option.{slice_get-get_or}
 use Rattle.mol_base.specs.declared.file.File.{File}
-use Rattle.mol_top.specs.renames.Addresses.{address_pair, address_pairs, is_unbuilt, IsAddressFault}
+use Rattle.mol_top.specs.renames.Addresses.{address_pair, address_pairs, is_unbuilt}
 use Rattle.mol_top.specs.Files.{FilePair, file_pair, file_pairs}
 use Rattle.mol_top.specs.renames.ClassFiles.{address_in}
-use Rattle.mol_top.specs.declared.renames.built.AddressFault.TheVariants.{NotBuilt}
+use Rattle.mol_top.specs.renames.MergeRefusals.{unbuilt_file}
+use Rattle.mol_top.specs.declared.status.Status.TheVariants.{NotBuilt}
 use Rattle.mol_top.specs.declared.renames.class_file.Address.{Address as Held}
-use Rattle.mol_top.proofs.renames.Cuts.{place}
 
 module _ {X : Type 0} (t : X → Bool) where
   later_none : (b : Bool) (x : X) (o : Option X) → cond b (Some x) o ≡ None → (b ≡ false) × (o ≡ None)
   later_none true x o e = absurd cc
   later_none false x o e = (refl, e)
-
-  none_pass : (xs : List X) → find t xs ≡ None → list_all (λ x. not (t x)) xs ≡ true
-  none_pass [] e = refl
-  none_pass (x ∷ xs) e =
-      let both = later_none (t x) x (find t xs) e in
-      rw (both.0) (none_pass xs both.1)
 
   found_at : (front : List X) (y : X) (rest : List X) → find t front ≡ None → t y ≡ true → find t (front ++ y ∷ rest) ≡ Some y
   found_at [] y rest e here = rw here refl
@@ -72,19 +64,12 @@ built_more files at file address within is before read =
     ap (find is_unbuilt) (taken files at file within is) ∙ none_more is_unbuilt (file_pairs (take at files)) (file_pair file) before (ap is_none (sym read))
 
 pub first_unbuilt : (files : List File) (at : ℕ) (file : File) → at < length files → file ≡ get_or files at file
-    → find is_unbuilt (file_pairs (take at files)) ≡ None → None ≡ address_in (file_pair file) → IsAddressFault (file_pairs files) (NotBuilt at)
+    → find is_unbuilt (file_pairs (take at files)) ≡ None → None ≡ address_in (file_pair file) → unbuilt_file (file_pairs files) ≡ Some (NotBuilt file.path)
 first_unbuilt files at file within is before read =
-    let pairs : List FilePair = file_pairs files in
     let front : List FilePair = file_pairs (take at files) in
-    let y : FilePair = file_pair file in
     let rest : List FilePair = file_pairs (drop (suc at) files) in
     let cut : drop at files ≡ file ∷ drop (suc at) files = drop-cons files at file within ∙ ap (λ (f : File). f ∷ drop (suc at) files) (sym is) in
     let parts : files ≡ take at files ++ file ∷ drop (suc at) files = sym (take-append-drop at files) ∙ ap (λ (fs : List File). take at files ++ fs) cut in
-    let whole : pairs ≡ front ++ y ∷ rest = ap file_pairs parts ∙ map-append file_pair (take at files) (file ∷ drop (suc at) files) in
-    let count : length front ≡ at = length-map (take at files) file_pair ∙ length-take-le at files (omega arith) in
-    let inside : at < length pairs = let len = length-map files file_pair in omega arith in
-    let here : is_unbuilt y ≡ true = ap is_none (sym read) in
-    let spot : position_or_len is_unbuilt pairs ≡ at = ap (position_or_len is_unbuilt) whole ∙ place is_unbuilt front y rest (none_pass is_unbuilt front before) here ∙ count in
-    let placed : position is_unbuilt pairs ≡ Some at = (λ i. cond (ltb (spot i) (length pairs)) (Some (spot i)) None) ∙ ap (λ b. cond b (Some at) None) (lt-ltb at (length pairs) inside) in
-    let item : get_or pairs at y ≡ y = (λ i. get_or (whole i) (sym count i) y) ∙ get_or-append_seam front y rest y in
-    (inside, placed, ap (find is_unbuilt) whole ∙ found_at is_unbuilt front y rest before here ∙ sym (slice_get-get_or pairs at y inside ∙ ap Some item))
+    let whole : file_pairs files ≡ front ++ file_pair file ∷ rest = ap file_pairs parts ∙ map-append file_pair (take at files) (file ∷ drop (suc at) files) in
+    ap (λ pairs. option_map (λ (file : FilePair). NotBuilt file.0) (find is_unbuilt pairs)) whole
+    ∙ ap (option_map (λ (file : FilePair). NotBuilt file.0)) (found_at is_unbuilt front (file_pair file) rest before (ap is_none (sym read)))

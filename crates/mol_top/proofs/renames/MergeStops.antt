@@ -1,23 +1,34 @@
 -- What stops a merge before the first write, and what it comes to.
-use Rattle.std.proofs.Common.{◌≡◌, ℕ, Option, ◌∙◌, refl}
+use Rattle.std.proofs.Common.{◌≡◌, ◌⊎◌, inl, inr, Option, Bool, true, false, ◌∙◌, ap, refl}
 use Rattle.std.specs.Prelude.{None, Some}
 use Rattle.std.specs.Option.{option_or, ForSome}
 use Rattle.mol_outside.specs.Contents.{Contents}
 use Rattle.mol_table.specs.Program.{Program}
+use Rattle.mol_top.specs.Answers.{limit_status}
 use Rattle.mol_top.specs.Command.{MergeWords, Command}
-use Rattle.mol_top.specs.renames.Given.{HasInputs, input_refusal}
-use Rattle.mol_top.specs.renames.Inputs.{base_of, log_at}
-use Rattle.mol_top.specs.renames.MergeOutcome.{outcome, outcome_of}
-use Rattle.mol_top.specs.Output.{IsWork}
+use Rattle.mol_top.specs.Outcome.{ByNames}
+use Rattle.mol_top.specs.Outside.{Store}
+use Rattle.mol_top.specs.Prepared.{IsStopped, StopsCommand}
 use Rattle.mol_top.specs.Refusals.{out_refusal}
+use Rattle.mol_top.specs.Report.{line_bytes, names_addresses, refusal_line}
+use Rattle.mol_top.specs.renames.ConflictReport.{merge_line}
+use Rattle.mol_top.specs.renames.Given.{HasInputs, StopsInputs, input_refusal, input_status}
+use Rattle.mol_top.specs.renames.Inputs.{base_of, log_at}
 use Rattle.mol_top.specs.renames.MergeRefusals.{refusal, base_refusal, log_refusal, logs_refusal, merge_refusal}
-use Rattle.mol_top.specs.Steps.{Stops, StopsBy, IsNamedByMerge, RefusesBy}
-use Rattle.mol_top.specs.Prepared.{IsPrepared, IsStopped, HasItsBase}
+use Rattle.mol_top.specs.renames.Merging.{RefusesLogs}
+use Rattle.mol_top.specs.renames.Working.{IsRefusalOf, merge_status}
+use Rattle.mol_top.specs.declared.fault.StoreFault.TheVariants as stores
+use Rattle.mol_top.specs.declared.refusal.Refusal.{Refusal}
+use Rattle.mol_top.specs.declared.renames.base.InputFault.{InputFault}
+use Rattle.mol_top.specs.declared.renames.base.InputFault.TheVariants as faults
 use Rattle.mol_top.specs.declared.renames.base.Inputs.{Inputs}
-use Rattle.mol_top.specs.declared.output.Work.{Work}
+use Rattle.mol_top.specs.declared.renames.merge.MergeFault.{MergeFault}
+use Rattle.mol_top.specs.declared.renames.merge.MergeFault.TheVariants as logs
 use Rattle.mol_top.specs.declared.status.LogCause.TheVariants.{SharedTag, Replay}
+use Rattle.mol_top.specs.declared.status.ReplayFault.TheVariants.{NotClean}
 use Rattle.mol_top.specs.declared.status.Status.{Status}
-use Rattle.mol_top.specs.declared.status.Status.TheVariants.{Done, Conflicts, Usage, LogRefused, ReadFailed, WriteFailed, OutOfMemory}
+use Rattle.mol_top.specs.declared.status.Status.TheVariants.{LogRefused, Missing, NotBuilt, OutInUse, OutOfMemory as no_memory}
+use Rattle.mol_top.proofs.Stopping.{either_stops, plain_line}
 
 abbrev of_logs : MergeWords → Contents → Option Status
 of_logs w h = logs_refusal (base_of w h) (log_at w h w.first) (log_at w h w.second)
@@ -37,25 +48,32 @@ refused_input w h s e = refusal-parts w h ∙ rw e refl
 
 -- # A stop while the inputs are read
 
-reading_cause : (w : MergeWords) (held : Option Contents) (b a : ℕ) (s : Status) → Stops (IsNamedByMerge w held) b a held (input_refusal w) s
-    → StopsBy (IsNamedByMerge w held) b a held (λ h s. refusal w h ≡ Some s) s
-reading_cause w held b a OutOfMemory stops = tt
-reading_cause w held b a (ReadFailed p) stops = stops
-reading_cause w held b a Done stops = stops
-reading_cause w held b a (Conflicts n) stops = stops
-reading_cause w held b a Usage stops = stops
-reading_cause w held b a (WriteFailed p) stops = stops
-reading_cause w held b a (LogRefused k f) stops = absurd stops
-reading_cause w held b a s stops = λ h e. refused_input w h s (stops h e)
+reading_cause : (w : MergeWords) (old new : Store) (fault : InputFault) → StopsInputs w old new fault → StopsCommand (Command.merge w) old new (input_status fault)
+reading_cause w old new (faults.Store stores.OutOfMemory) stops = tt
+reading_cause w old new (faults.Store (stores.ReadFailed p)) stops = stops
+reading_cause w old new (faults.Store (stores.Missing p)) stops = λ h e. refused_input w h (Missing p) (stops h e)
+reading_cause w old new (faults.Store (stores.OutInUse p)) stops = λ h e. refused_input w h (OutInUse p) (stops h e)
+reading_cause w old new (faults.Store (stores.Limit limit)) stops = λ h e. refused_input w h (limit_status limit) (stops h e)
+reading_cause w old new (faults.NotBuilt p) stops = λ h e. refused_input w h (NotBuilt p) (stops h e)
 
-no_base : (w : MergeWords) (held : Option Contents) (b a : ℕ) (base : Program) (s : Status) → Stops (IsNamedByMerge w held) b a held (input_refusal w) s → HasItsBase (Command.merge w) held base s
-no_base w held b a base (LogRefused k (Replay f)) stops = absurd stops
-no_base w held b a base (LogRefused k (SharedTag t)) stops = tt
-no_base w held b a base s stops = tt
+plain : (fault : InputFault) → names_addresses (input_status fault) ≡ false
+plain (faults.Store stores.OutOfMemory) = refl
+plain (faults.Store (stores.ReadFailed p)) = refl
+plain (faults.Store (stores.Missing p)) = refl
+plain (faults.Store (stores.OutInUse p)) = refl
+plain (faults.Store (stores.Limit limit)) = refl
+plain (faults.NotBuilt p) = refl
 
-pub stopped_reading : (w : MergeWords) (held : Option Contents) (b a : ℕ) (base : Program) (s : Status) → Stops (IsNamedByMerge w held) b a held (input_refusal w) s
-    → IsStopped (Command.merge w) held b a (record { status = s; base = base })
-stopped_reading w held b a base s stops = record { cause = reading_cause w held b a s stops; base = no_base w held b a base s stops }
+said_plain : (s said : Status) → names_addresses s ≡ false → (said ≡ s) ⊎ (said ≡ no_memory) → names_addresses said ≡ false
+said_plain s said plain (inl is) = ap names_addresses is ∙ plain
+said_plain s said plain (inr is) = ap names_addresses is
+
+pub stopped_reading : (w : MergeWords) (old new : Store) (fault : InputFault) (refusal : Refusal) → StopsInputs w old new fault
+    → (refusal.status ≡ input_status fault) ⊎ (refusal.status ≡ no_memory) → line_bytes refusal.line ≡ refusal_line refusal.status → IsStopped (Command.merge w) old new refusal
+stopped_reading w old new fault refusal stops said line = record {
+  cause = either_stops (Command.merge w) old new (input_status fault) refusal.status (reading_cause w old new fault stops) said;
+  line = plain_line (Command.merge w) old refusal (said_plain (input_status fault) refusal.status (plain fault) said) line;
+}
 
 -- # The logs of accepted inputs
 
@@ -63,32 +81,27 @@ module _ (w : MergeWords) (h : Contents) (inputs : Inputs) (has : HasInputs w h 
   merge_refuses : refusal w h ≡ merge_refusal inputs.base inputs.first inputs.second
   merge_refuses = refusal-parts w h ∙ rw (has.accepted, has.first, has.second, ← has.base) refl
 
-  outcome_is : outcome_of w h ≡ Some (outcome w.out inputs.base inputs.first inputs.second)
-  outcome_is = rw (has.first, has.second, ← has.base) refl
+-- # A stop at the logs
 
-  -- the merge comes to what its logs come to
-  pub merge_work : (work : Work) → merge_refusal inputs.base inputs.first inputs.second ≡ None → IsWork work (outcome w.out inputs.base inputs.first inputs.second) → IsPrepared (Command.merge w) h work
-  merge_work work none is = record {
-    outcome = outcome w.out inputs.base inputs.first inputs.second;
-    comes = record { accepted = merge_refuses ∙ none; is = outcome_is };
-    is = is;
-  }
+merging_cause : (w : MergeWords) (old new : Store) (inputs : Inputs) (fault : MergeFault) → ForSome old.held (λ h. HasInputs w h inputs)
+    → RefusesLogs (merge_refusal inputs.base inputs.first inputs.second) fault → StopsCommand (Command.merge w) old new (merge_status fault)
+merging_cause w old new inputs logs.OutOfMemory has by = tt
+merging_cause w old new inputs (logs.Log k f) has by = λ h e. merge_refuses w h inputs (has h e) ∙ by
 
-merging_cause : (w : MergeWords) (held : Option Contents) (b a : ℕ) (inputs : Inputs) (s : Status) → ForSome held (λ h. HasInputs w h inputs)
-    → RefusesBy (merge_refusal inputs.base inputs.first inputs.second) s → StopsBy (IsNamedByMerge w held) b a held (λ h s. refusal w h ≡ Some s) s
-merging_cause w held b a inputs OutOfMemory has by = tt
-merging_cause w held b a inputs (ReadFailed p) has by = absurd by
-merging_cause w held b a inputs Done has by = by
-merging_cause w held b a inputs (Conflicts n) has by = by
-merging_cause w held b a inputs Usage has by = by
-merging_cause w held b a inputs (WriteFailed p) has by = by
-merging_cause w held b a inputs s has by = λ h e. merge_refuses w h inputs (has h e) ∙ by
+-- the line of a merge that names no address is the same over any base
+any_base : (base : Program) (s : Status) → names_addresses s ≡ false → merge_line base s ≡ refusal_line s
+any_base base (LogRefused k (Replay (NotClean f))) plain = absurd cc
+any_base base (LogRefused k (SharedTag t)) plain = refl
+any_base base s plain = refl
 
-its_base : (w : MergeWords) (held : Option Contents) (inputs : Inputs) (s : Status) → ForSome held (λ h. HasInputs w h inputs) → HasItsBase (Command.merge w) held inputs.base s
-its_base w held inputs (LogRefused k (Replay f)) has = λ h e. (has h e).base
-its_base w held inputs (LogRefused k (SharedTag t)) has = tt
-its_base w held inputs s has = tt
+by_names : (b : Bool) (w : MergeWords) (store : Store) (inputs : Inputs) (refusal : Refusal) → names_addresses refusal.status ≡ b → ForSome store.held (λ h. HasInputs w h inputs)
+    → line_bytes refusal.line ≡ merge_line inputs.base refusal.status → ByNames b (Some (Command.merge w)) store refusal.status (λ line. line_bytes refusal.line ≡ line)
+by_names true w store inputs refusal names has is = λ h e. is ∙ ap (λ base. merge_line base refusal.status) (has h e).base
+by_names false w store inputs refusal names has is = is ∙ any_base inputs.base refusal.status names
 
-pub stopped_merging : (w : MergeWords) (held : Option Contents) (b a : ℕ) (inputs : Inputs) (s : Status) → ForSome held (λ h. HasInputs w h inputs)
-    → RefusesBy (merge_refusal inputs.base inputs.first inputs.second) s → IsStopped (Command.merge w) held b a (record { status = s; base = inputs.base })
-stopped_merging w held b a inputs s has by = record { cause = merging_cause w held b a inputs s has by; base = its_base w held inputs s has }
+pub stopped_merging : (w : MergeWords) (old new : Store) (inputs : Inputs) (fault : MergeFault) (refusal : Refusal) → ForSome old.held (λ h. HasInputs w h inputs)
+    → RefusesLogs (merge_refusal inputs.base inputs.first inputs.second) fault → IsRefusalOf inputs.base fault refusal → IsStopped (Command.merge w) old new refusal
+stopped_merging w old new inputs fault refusal has by is = record {
+  cause = either_stops (Command.merge w) old new (merge_status fault) refusal.status (merging_cause w old new inputs fault has by) is.status;
+  line = by_names (names_addresses refusal.status) w old inputs refusal refl has is.line;
+}

@@ -7,20 +7,20 @@ use Rattle.mol_outside.specs.Contents.{Contents}
 use Rattle.mol_table.specs.Program.{Program}
 use Rattle.mol_top.specs.renames.ClassFiles.{file_list}
 use Rattle.mol_top.specs.Command.{MergeWords, swapped, joined}
-use Rattle.mol_top.specs.Formatting.{below}
+use Rattle.mol_top.specs.Output.{below}
 use Rattle.mol_top.specs.renames.Inputs.{base_of, log_at}
 use Rattle.mol_top.specs.renames.LogText.{log_text}
 use Rattle.mol_top.specs.renames.Merge.{first_tag, conflicts}
 use Rattle.mol_top.specs.renames.MergeOutcome.{outcome, outcome_by, outcome_of, IsSameSwapped}
 use Rattle.mol_top.specs.Refusals.{absent_input, out_refusal}
-use Rattle.mol_top.specs.renames.MergeRefusals.{refusal, base_refusal, log_refusal, logs_refusal, merge_refusal, shared_tag, replay_refusal, first_fault}
+use Rattle.mol_top.specs.renames.MergeRefusals.{refusal, base_refusal, log_refusal, logs_refusal, merge_refusal, tag_refusal, replay_refusal, first_fault}
 use Rattle.mol_top.specs.renames.ConflictReport.{merge_report}
 use Rattle.mol_top.specs.renames.Symmetric.{IsSymmetric}
 use Rattle.mol_top.specs.declared.renames.conflict.Conflict.{Conflict}
 use Rattle.mol_top.specs.declared.renames.fault.Fault.{Fault}
 use Rattle.mol_top.specs.declared.renames.log.Log.{Log}
 use Rattle.mol_top.specs.declared.status.Status.{Status}
-use Rattle.mol_top.proofs.renames.EitherOrder.{allowed_order}
+use Rattle.mol_top.proofs.renames.EitherOrder.{allowed_order, untagged}
 
 left_none : {A : Type 0} (a b : Option A) → option_or a b ≡ None → a ≡ None
 left_none None b e = refl
@@ -37,17 +37,17 @@ first_fault-any : (n m : ℕ) (fs : List Fault) → first_fault n fs ≡ None �
 first_fault-any n m [] e = refl
 first_fault-any n m (f ∷ fs) e = absurd cc
 
-untied : (b : Bool) (s : Status) → cond b (Some s) None ≡ None → b ≡ false
-untied true s e = absurd cc
-untied false s e = refl
+untied : (b : Bool) (tag : List ℕ) → cond b (Some tag) None ≡ None → b ≡ false
+untied true tag e = absurd cc
+untied false tag e = refl
 
 -- where two logs may be merged, so they may in the other order
 merge_refusal-swapped : (base : Program) (one other : Log) → merge_refusal base one other ≡ None → merge_refusal base other one ≡ None
 merge_refusal-swapped base one other none =
-    let shared = left_none (shared_tag one other) _ none in
-    let replays = right_none (shared_tag one other) _ none in
+    let shared = untagged one other (left_none (tag_refusal one other) _ none) in
+    let replays = right_none (tag_refusal one other) _ none in
     let apart = untied (pointwise nat_eq (first_tag one) (first_tag other)) _ shared in
-    or_none (shared_tag other one) _ (rw (nat_list_eq_equiv.symm (first_tag other) (first_tag one), apart) refl)
+    or_none (tag_refusal other one) _ (rw (nat_list_eq_equiv.symm (first_tag other) (first_tag one), apart) refl)
     (or_none (replay_refusal base 1 other) (replay_refusal base 2 one) (first_fault-any 2 1 _ (right_none (replay_refusal base 1 one) _ replays)) (first_fault-any 1 2 _ (left_none (replay_refusal base 1 one) _ replays)))
 
 -- the outcome goes by the conflicts, the united program and the merged log
@@ -55,7 +55,7 @@ outcome-swapped : (out : List ℕ) (base : Program) (one other : Log) → IsSymm
 outcome-swapped out base one other same = ap (outcome_by out base other one) same.conflicts ∙ by_list (conflicts base one other) where
   by_list : (list : List Conflict) → outcome_by out base other one list ≡ outcome_by out base one other list
   by_list [] = λ i. record {
-    conflicts = [];
+    conflicts = 0;
     files = below out (file_list (same.program i)) ++ (joined out (codes "merged.mol"), log_text (same.log i)) ∷ [];
     report = merge_report (length (file_list (same.program i))) (length (same.log i).entries);
   }

@@ -1,19 +1,16 @@
 -- What logs leave of the rows of a base.
 use Rattle.std.proofs.Common.{◌≡◌, List, map, sym, ap, ◌∙◌}
 use Rattle.std.specs.Prelude.{Result, Ok, Err, IfOk, Option}
-use Rattle.std.specs.Option.{option_or}
-use Rattle.std.specs.FinMap.{entries, from_entries}
-use Rattle.mol_outside.specs.Contents.{Contents}
 use Rattle.mol_table.specs.Program.{Program}
 use Rattle.mol_values.specs.declared.cell.Cell.{Cell}
 use Rattle.mol_values.specs.declared.value.Value.{Value}
-use Rattle.mol_top.specs.renames.ClassFiles.{file_of}
+use Rattle.mol_top.specs.renames.ClassFiles.{class_list}
 use Rattle.mol_top.specs.renames.Faults.{Class, classes_of, same_addresses, faults}
 use Rattle.mol_top.specs.renames.Merge.{united_in_order, conflicts_in_order}
 use Rattle.mol_top.specs.renames.Merging.{AreRowsOf, IsSettled, IsUnited}
-use Rattle.mol_top.specs.renames.Renaming.{renamed, IsRenaming}
+use Rattle.mol_top.specs.renames.Renaming.{renamed, renamed_by_both, IsRenaming}
 use Rattle.mol_top.specs.renames.Rows.{classes_in}
-use Rattle.mol_top.specs.renames.Writes.{value_by, after, overlaid}
+use Rattle.mol_top.specs.renames.Writes.{value_by, value_by_both, after, overlaid}
 use Rattle.mol_top.specs.declared.renames.conflict.Conflict.{Conflict}
 use Rattle.mol_top.specs.declared.renames.log.Log.{Log}
 use Rattle.mol_top.specs.declared.renames.merge.United.{United}
@@ -37,10 +34,10 @@ faults_left base rows left writes log same are is =
     ap same_addresses (classes_left base rows left (value_by writes.entries) (value_by_name writes.entries) are is) ∙ ap (λ (log : Log). faults (after base log.entries)) same
 
 pub classes_united : (base : Program) (rows left : List Row) (one other : Log) → AreRowsOf base rows
-    → classes_in left ≡ map (renamed (λ at. option_or (value_by other.entries at) (value_by one.entries at))) (classes_in rows)
+    → classes_in left ≡ renamed_by_both one.entries other.entries (classes_in rows)
     → classes_in left ≡ classes_of (united_in_order base one other)
 classes_united base rows left one other are is =
-    classes_left base rows left (λ at. option_or (value_by other.entries at) (value_by one.entries at))
+    classes_left base rows left (value_by_both one.entries other.entries)
     (either_renaming (value_by other.entries) (value_by one.entries) (value_by_name other.entries) (value_by_name one.entries)) are is
 
 pub united_of : (base : Program) (one other : Log) (list : List Conflict) (classes : List Class) (answer : United)
@@ -48,4 +45,4 @@ pub united_of : (base : Program) (one other : Log) (list : List Conflict) (class
     → IsSettled list classes answer → IsUnited base one other answer
 united_of base one other list classes (Conflicts found) listed left is = (is.0 ∙ listed, is.1)
 united_of base one other list classes (Files files) listed left is =
-    (sym listed ∙ is.0, is.1 ∙ ap (λ (classes : List Class). let held : Contents = from_entries (map file_of classes) in entries held) left)
+    (sym listed ∙ is.0, is.1 ∙ ap class_list left)

@@ -37,9 +37,6 @@ same_name one other = same_bool _ _
 pub same_ops : (one other : Op) → same_value (name_in one) (name_in other) ≡ bytes_eq (new_name one) (new_name other)
 same_ops (RenameClass one) (RenameClass other) = same_name one.name other.name
 
-pub value_of : (op : Op) → name_in op ≡ values.Name (new_name op)
-value_of (RenameClass op) = refl
-
 -- what both write is one value, or two
 pub differ_not : (at : Cell) (one other : Entry) → bytes_eq (new_name one.op) (new_name other.op) ≡ true → differing at (Some (write_in one)) (Some (write_in other)) ≡ None
 differ_not at one other e = ap (λ b. if b then None else Some (record { kind = Twice at (name_in one.op) (name_in other.op); stamps = one.stamp ∷ other.stamp ∷ [] })) (same_ops one.op other.op ∙ e)

@@ -68,13 +68,6 @@ keys_overlaid p f = ap (map (λ e. e.0)) (entries_overlaid p f) ∙ keys_other f
 pub ids_overlaid : (p : Program) (f : Cell → Option Value) (slot : Slot) → ids_with (overlaid p f) slot ≡ ids_with p slot
 ids_overlaid p f slot = ap (filter_map (id_at_slot slot)) (keys_overlaid p f)
 
-some_mapped : (g : Value → Value) (o : Option Value) → is_some (option_map g o) ≡ is_some o
-some_mapped g None = refl
-some_mapped g (Some value) = refl
-
-pub has_overlaid : (p : Program) (f : Cell → Option Value) (id : Id) (slot : Slot) → has (overlaid p f) id slot ≡ has p id slot
-has_overlaid p f id slot = ap is_some (value_overlaid p f id slot) ∙ some_mapped (unwrap_or (f (cell id slot))) (value_at p id slot)
-
 -- ---- renamings
 
 pub no_value : (f : Cell → Option Value) → IsRenaming f → (at : Cell) → at.slot ≢ slots.Name → f at ≡ None

@@ -9,10 +9,7 @@ use Rattle.serde_json.specs.View.{view, items_view}
 use Rattle.serde_json.specs.declared.value.Value.{Value}
 use Rattle.mol_top.specs.declared.renames.log.Log.{Log}
 use Rattle.mol_top.specs.declared.renames.log.Entry.{Entry}
-use Rattle.mol_base.specs.declared.ident.Stamp.{Stamp}
-use Rattle.mol_top.specs.declared.renames.log.Op.{Op}
-use Rattle.mol_top.specs.declared.renames.log.Op.TheVariants.{RenameClass}
-use Rattle.mol_top.specs.renames.LogText.{tag_items, header_data, op_data, entry_data, line_of}
+use Rattle.mol_top.specs.renames.LogText.{tag_items, header_data, entry_data, line_of}
 
 -- tags have no float
 pub tags_no_float : (tags : List (List ℕ)) → items_have_float (tag_items tags) ≡ false
@@ -21,9 +18,6 @@ tags_no_float (tag ∷ tags) = tags_no_float tags
 
 pub header_no_float : (log : Log) → has_float (header_data log) ≡ false
 header_no_float log = rw (tags_no_float log.tags) refl
-
-pub op_no_float : (stamp : Stamp) (op : Op) → has_float (op_data stamp op) ≡ false
-op_no_float stamp (RenameClass op) = refl
 
 -- items with one more at the end
 abbrev pushed : Items → Data → Items

@@ -1,12 +1,13 @@
 -- Addresses of classes, as the program holds them.
-use Rattle.std.specs.Prelude.{◌≡◌, ◌<◌, ◌&&◌, ⊤, Bool, List, length, map, Some, is_none, slice_get}
-use Rattle.std.specs.List.{find, position}
+use Rattle.std.specs.Prelude.{◌≡◌, ◌&&◌, ⊤, Bool, List, map, Some, is_none}
 use Rattle.mol_top.specs.Files.{FilePair}
 use Rattle.mol_top.specs.renames.ClassFiles.{Address as AddressPair, address_in}
 use Rattle.mol_top.specs.renames.Names.{is_class_name, is_package}
 use Rattle.mol_top.specs.declared.renames.built.AddressFault.{AddressFault}
-use Rattle.mol_top.specs.declared.renames.built.AddressFault.TheVariants.{NotBuilt, OutOfMemory}
+use Rattle.mol_top.specs.declared.renames.built.AddressFault.TheVariants as faults
 use Rattle.mol_top.specs.declared.renames.class_file.Address.{Address}
+use Rattle.mol_top.specs.declared.status.Status.TheVariants.{NotBuilt}
+use Rattle.mol_top.specs.renames.MergeRefusals.{unbuilt_file}
 
 -- the package and the name
 abbrev pub address_pair : Address → AddressPair
@@ -23,7 +24,7 @@ is_named address = is_package address.0 && is_class_name address.1
 abbrev pub is_unbuilt : FilePair → Bool
 is_unbuilt file = is_none (address_in file)
 
--- which file is the first that is not of the built form
+-- the path of the first file that is not of the built form
 abbrev pub IsAddressFault : List FilePair → AddressFault → Type 0
-IsAddressFault files (NotBuilt at) = (at < length files) × (position is_unbuilt files ≡ Some at) × (find is_unbuilt files ≡ slice_get files at)
-IsAddressFault files OutOfMemory = ⊤
+IsAddressFault files (faults.NotBuilt path) = unbuilt_file files ≡ Some (NotBuilt path)
+IsAddressFault files faults.OutOfMemory = ⊤

@@ -1,5 +1,5 @@
 -- Files of classes without members, the files of a program, its bundle and digest.
-use Rattle.std.specs.Prelude.{◌≡◌, ℕ, true, ◌&&◌, ◌==◌, nat_eq, List, ◌∷◌, ◌++◌, length, map, codes, drop, Option, None, Some, if◌then◌else◌}
+use Rattle.std.specs.Prelude.{◌≡◌, ℕ, Bool, true, ◌&&◌, ◌==◌, nat_eq, List, ◌∷◌, ◌++◌, length, map, codes, drop, Option, None, Some, if◌then◌else◌}
 use Rattle.std.specs.List.{concat, before_first, after_first}
 use Rattle.std.specs.Cmp.Lexicographic.{pointwise}
 use Rattle.std.specs.FinMap.{entries, from_entries}
@@ -34,16 +34,23 @@ cut_address bytes =
     let from : List ℕ = drop 8 bytes in
     (before_first (λ byte. byte == 59) from, before_first (λ byte. byte == 32) (drop 8 (after_first (λ byte. byte == 59) from)))
 
--- the class that a file is of, where its bytes and its path are those of a class without members
+-- the bytes and the path of a file are those of a class without members
+abbrev pub is_file_of : FilePair → Address → Bool
+is_file_of file address = pointwise nat_eq (text_of address.0 address.1) file.1 && pointwise nat_eq (path_of address.0 address.1) file.0
+
+-- the class that a file is of, where it is that of a class without members
 abbrev pub address_in : FilePair → Option Address
 address_in file =
     let address : Address = cut_address file.1 in
-    if is_package address.0 && (is_class_name address.1 && (pointwise nat_eq (text_of address.0 address.1) file.1 && pointwise nat_eq (path_of address.0 address.1) file.0))
-    then Some address else None
+    if is_package address.0 && (is_class_name address.1 && is_file_of file address) then Some address else None
 
 -- a file is of the built form where it is the file of a package and a name
 abbrev pub IsClassFile : FilePair → Address → Type 0
 IsClassFile file address = (is_package address.0 && is_class_name address.1 ≡ true) × (file ≡ (path_of address.0 address.1, text_of address.0 address.1))
+
+-- the file is of no other class
+abbrev pub IsOnlyClass : FilePair → Option Address → Type 0
+IsOnlyClass file found = (address : Address) → IsClassFile file address → found ≡ Some address
 
 -- # The files of a program
 
@@ -51,13 +58,13 @@ IsClassFile file address = (is_package address.0 && is_class_name address.1 ≡ 
 abbrev pub class_files : List Class → Contents
 class_files classes = from_entries (map file_of classes)
 
--- each living class has its file
-abbrev pub files : Program → Contents
-files program = class_files (classes_of program)
+-- .. in the order of their paths
+abbrev pub class_list : List Class → List FilePair
+class_list classes = entries (class_files classes)
 
--- the files in the order of their paths
+-- the files of the living classes
 abbrev pub file_list : Program → List FilePair
-file_list program = entries (files program)
+file_list program = class_list (classes_of program)
 
 -- the path, the length and the bytes of a file
 abbrev pub bundled : FilePair → List ℕ

@@ -10,6 +10,7 @@ use Rattle.mol_table.specs.Program.{Program}
 use Rattle.mol_values.specs.declared.cell.Cell.{Cell}
 use Rattle.mol_values.specs.declared.cell.Slot.{Slot}
 use Rattle.mol_values.specs.declared.cell.Slot.TheVariants as slots
+use Rattle.mol_top.specs.Report.{log_line, refusal_line}
 use Rattle.mol_top.specs.renames.Cells.{has}
 use Rattle.mol_top.specs.renames.Faults.{class_at}
 use Rattle.mol_top.specs.renames.ValueText.{value_data}
@@ -18,6 +19,10 @@ use Rattle.mol_top.specs.declared.renames.conflict.ConflictKind.{ConflictKind}
 use Rattle.mol_top.specs.declared.renames.conflict.ConflictKind.TheVariants.{Twice, Bad}
 use Rattle.mol_top.specs.declared.renames.fault.Fault.{Fault}
 use Rattle.mol_top.specs.declared.renames.fault.Fault.TheVariants.{SameAddress}
+use Rattle.mol_top.specs.declared.status.LogCause.TheVariants.{Replay}
+use Rattle.mol_top.specs.declared.status.ReplayFault.TheVariants.{NotClean}
+use Rattle.mol_top.specs.declared.status.Status.{Status}
+use Rattle.mol_top.specs.declared.status.Status.TheVariants.{LogRefused}
 
 -- # Identities and cells
 
@@ -51,10 +56,19 @@ slot_text slots.Value = codes "value"
 abbrev pub cell_text : Program → Cell → List ℕ
 cell_text base at = id_text base at.id ++ 46 ∷ slot_text at.slot
 
--- # Faults and conflicts
+-- # Faults, refused logs and conflicts
 
 abbrev pub fault_text : Program → Fault → List ℕ
 fault_text base (SameAddress first second) = codes "same-address " ++ id_text base first ++ 32 ∷ id_text base second
+
+-- the line of a log whose replay leaves a fault
+abbrev pub replay_line : Program → ℕ → Fault → List ℕ
+replay_line base which fault = log_line which (codes "not-clean " ++ fault_text base fault)
+
+-- the line of a refusal of a merge over a base
+abbrev pub merge_line : Program → Status → List ℕ
+merge_line base (LogRefused which (Replay (NotClean fault))) = replay_line base which fault
+merge_line base status = refusal_line status
 
 -- ` by` and the stamps, a space before each
 abbrev pub stamps_text : List Stamp → List ℕ

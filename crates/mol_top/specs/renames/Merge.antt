@@ -1,6 +1,6 @@
 -- Two logs over one base: their conflicts, what they leave together, and the merged log.
 use Rattle.std.specs.Prelude.{ℕ, Bool, ◌&&◌, List, [], ◌∷◌, ◌++◌, map, Option, None, Some, option_map, if◌then◌else◌}
-use Rattle.std.specs.Option.{option_or, option_to_list}
+use Rattle.std.specs.Option.{option_to_list}
 use Rattle.std.specs.List.{filter_map, flat_map}
 use Rattle.std.specs.Ordering.{is_lt}
 use Rattle.std.specs.declared.cmp.Ordering.{Ordering}
@@ -14,7 +14,7 @@ use Rattle.mol_table.specs.Values.{same_value}
 use Rattle.mol_values.specs.declared.cell.Cell.{Cell}
 use Rattle.mol_values.specs.declared.cell.Slot.TheVariants as slots
 use Rattle.mol_top.specs.renames.Faults.{faults}
-use Rattle.mol_top.specs.renames.Writes.{Write, last, value_by, after, overlaid}
+use Rattle.mol_top.specs.renames.Writes.{Write, last, value_by_both, after, overlaid}
 use Rattle.mol_top.specs.declared.renames.conflict.Conflict.{Conflict}
 use Rattle.mol_top.specs.declared.renames.conflict.ConflictKind.TheVariants.{Twice, Bad}
 use Rattle.mol_top.specs.declared.renames.fault.Fault.{Fault}
@@ -64,7 +64,7 @@ pairs_in_order base one other = filter_map (twice_at base one other) (keys base.
 -- each cell has the last value of the log that writes it, else that of the base; where both write it, the value of the
 -- log with the greater first tag
 abbrev pub united_in_order : Program → Log → Log → Program
-united_in_order base one other = overlaid base (λ at. option_or (value_by other.entries at) (value_by one.entries at))
+united_in_order base one other = overlaid base (value_by_both one.entries other.entries)
 
 -- # Faults of what both leave, with those who brought them
 
@@ -94,9 +94,13 @@ abbrev pub writers : Log → Log → Cell → List Stamp
 writers one other at =
     option_to_list (option_map (λ write. write.stamp) (last one.entries at)) ++ option_to_list (option_map (λ write. write.stamp) (last other.entries at))
 
--- a fault as a conflict, by the last writers of its support
+-- the stamps of the last writers of what a fault stands on, in order
+abbrev pub brought_by : Log → Log → Fault → List Stamp
+brought_by one other fault = ascending (flat_map (writers one other) (support fault))
+
+-- a fault as a conflict
 abbrev pub bad : Log → Log → Fault → Conflict
-bad one other fault = record { kind = Bad fault; stamps = ascending (flat_map (writers one other) (support fault)) }
+bad one other fault = record { kind = Bad fault; stamps = brought_by one other fault }
 
 -- # The conflicts of two logs
 

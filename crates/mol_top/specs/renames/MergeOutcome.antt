@@ -5,11 +5,10 @@ use Rattle.mol_table.specs.Program.{Program}
 use Rattle.mol_top.specs.Files.{FilePair}
 use Rattle.mol_top.specs.renames.ClassFiles.{file_list}
 use Rattle.mol_top.specs.Command.{MergeWords, swapped, joined}
-use Rattle.mol_top.specs.Formatting.{below}
 use Rattle.mol_top.specs.renames.Inputs.{base_of, log_at}
 use Rattle.mol_top.specs.renames.LogText.{log_text}
 use Rattle.mol_top.specs.renames.Merge.{conflicts, united, merged_log}
-use Rattle.mol_top.specs.Output.{Outcome}
+use Rattle.mol_top.specs.Output.{Outcome, below}
 use Rattle.mol_top.specs.renames.MergeRefusals.{refusal}
 use Rattle.mol_top.specs.renames.ConflictReport.{conflicts_report, merge_report}
 use Rattle.mol_top.specs.declared.renames.conflict.Conflict.{Conflict}
@@ -25,9 +24,9 @@ merged_report base one other = merge_report (length (file_list (united base one 
 
 -- nothing is written where the logs conflict
 abbrev pub outcome_by : List ℕ → Program → Log → Log → List Conflict → Outcome
-outcome_by out base one other [] = record { conflicts = []; files = merged_files out base one other; report = merged_report base one other }
+outcome_by out base one other [] = record { conflicts = 0; files = merged_files out base one other; report = merged_report base one other }
 outcome_by out base one other (conflict ∷ conflicts) =
-    record { conflicts = conflict ∷ conflicts; files = []; report = conflicts_report base (conflict ∷ conflicts) }
+    record { conflicts = length (conflict ∷ conflicts); files = []; report = conflicts_report base (conflict ∷ conflicts) }
 
 abbrev pub outcome : List ℕ → Program → Log → Log → Outcome
 outcome out base one other = outcome_by out base one other (conflicts base one other)

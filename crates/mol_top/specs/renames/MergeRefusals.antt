@@ -30,9 +30,13 @@ base_refusal base held = option_or (reading_refusal base held) (unbuilt_file (ba
 abbrev pub log_refusal : MergeWords → Contents → List ℕ → Option Status
 log_refusal c held path = option_or (absent_input path held) (if is_some (log_at c held path) then None else Some (NotBuilt path))
 
+-- the first tag of both logs, where they have one
+abbrev pub shared_tag : Log → Log → Option (List ℕ)
+shared_tag first second = if pointwise nat_eq (first_tag first) (first_tag second) then Some (first_tag first) else None
+
 -- both logs have one tag
-abbrev pub shared_tag : Log → Log → Option Status
-shared_tag first second = if pointwise nat_eq (first_tag first) (first_tag second) then Some (LogRefused 2 (SharedTag (first_tag first))) else None
+abbrev pub tag_refusal : Log → Log → Option Status
+tag_refusal first second = option_map (λ tag. LogRefused 2 (SharedTag tag)) (shared_tag first second)
 
 abbrev pub first_fault : ℕ → List Fault → Option Status
 first_fault which [] = None
@@ -44,7 +48,8 @@ replay_refusal base which log = first_fault which (faults (after base log.entrie
 
 -- what refuses the merge of two logs
 abbrev pub merge_refusal : Program → Log → Log → Option Status
-merge_refusal base first second = option_or (shared_tag first second) (option_or (replay_refusal base 1 first) (replay_refusal base 2 second))
+merge_refusal base first second =
+    option_or (tag_refusal first second) (option_or (replay_refusal base 1 first) (replay_refusal base 2 second))
 
 -- the same of two logs that may be there
 abbrev pub logs_refusal : Program → Option Log → Option Log → Option Status

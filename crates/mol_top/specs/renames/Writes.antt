@@ -59,6 +59,10 @@ overlaid program values = record program { cells = from_entries (map (λ entry. 
 abbrev pub value_by : List Entry → Cell → Option Value
 value_by entries at = option_map (λ write. write.value) (last entries at)
 
+-- the same of two lists of entries, those of the second before those of the first
+abbrev pub value_by_both : List Entry → List Entry → Cell → Option Value
+value_by_both one other at = option_or (value_by other at) (value_by one at)
+
 -- the program after these entries: each cell has its last value, where there is one
 abbrev pub after : Program → List Entry → Program
 after program entries = overlaid program (value_by entries)

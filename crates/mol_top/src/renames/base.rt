@@ -1,29 +1,28 @@
 //! The base of a command, and its logs.
-ghost use Rattle.std.specs.Prelude.{◌≡◌, ◌≤◌, IfOk, IfErr, None, Some, length};
-ghost use Rattle.std.specs.List.{filter_map};
+ghost use Rattle.std.specs.Prelude.{◌≡◌, ◌≤◌, IfOk, OnOk, IfErr, None, length};
 ghost use Rattle.std.specs.Option.{ForSome};
 ghost use Rattle.mol_base.specs.Limits.{most};
 ghost use Rattle.mol_base.specs.declared.limit.Which.TheVariants as limits;
 ghost use Rattle.mol_top.specs.Carried.{Carries, CarriesOwn, NoPath};
-ghost use Rattle.mol_top.specs.Command.{Command};
-ghost use Rattle.mol_top.specs.renames.ClassFiles.{address_in, digest_of};
-ghost use Rattle.mol_top.specs.renames.Given.{IsBase, HasInputs, input_refusal, read_log_refusal, log_there};
-ghost use Rattle.mol_top.specs.renames.Inputs.{base_program};
-ghost use Rattle.mol_top.specs.renames.LogRead.{log_of};
-ghost use Rattle.mol_top.specs.renames.MergeRefusals.{unbuilt_file};
+ghost use Rattle.mol_top.specs.Command.{merge_paths};
 ghost use Rattle.mol_top.specs.Files.{file_pairs};
-ghost use Rattle.mol_top.specs.Steps.{Stops, RefusesBy, IsNamedByMerge};
+ghost use Rattle.mol_top.specs.Outside.{OnlyReads, store};
+ghost use Rattle.mol_top.specs.Steps.{Only};
 ghost use Rattle.mol_top.specs.Words.{merge_words};
-ghost use Rattle.std.specs.FinMap.{get};
+ghost use Rattle.mol_top.specs.renames.Addresses.{IsAddressFault};
+ghost use Rattle.mol_top.specs.renames.ClassFiles.{digest_of};
+ghost use Rattle.mol_top.specs.renames.Given.{HasInputs, IsBase, IsLogThere, StopsInputs, StopsLog, input_status};
+ghost use Rattle.mol_top.specs.renames.MergeRefusals.{unbuilt_file};
 
 use crate::command::MergeWords;
+use crate::fault::StoreFault;
 use crate::renames::built::{AddressFault, base_table, read_addresses};
 use crate::renames::class_files::{digest_of_files, files_of};
 use crate::renames::classes::rows_of;
 use crate::renames::log_text::read_log;
 use crate::store::{check_out, read_base, read_input};
 use crate::{Log, Status};
-use mol_base::{File, Text};
+use mol_base::{File, OutOfMemory, Text};
 use mol_outside::Files;
 use mol_table::Table;
 use std::alloc::Global;
@@ -44,17 +43,73 @@ pub struct Inputs {
     pub second: Log,
 }
 
+/// Why the inputs of a merge are not read.
+#[derive(Debug, Drop)]
+pub enum InputFault {
+    Store(StoreFault),
+    /// The input of this path is not of the form that is built so far.
+    NotBuilt(Text),
+}
+
+impl From<StoreFault> for InputFault {
+    ghost use Rattle.std.specs.Prelude.{◌≡◌};
+    ghost use Rattle.mol_top.specs.declared.renames.base.InputFault.TheVariants.{Store};
+
+    ghost from_gives = { λ fault input. input ≡ Store fault };
+
+    fn from(fault: StoreFault) -> InputFault {
+        InputFault::Store(fault)
+    }
+}
+
+impl From<OutOfMemory> for InputFault {
+    ghost use Rattle.std.specs.Prelude.{◌≡◌};
+    ghost use Rattle.mol_top.specs.declared.fault.StoreFault.TheVariants.{OutOfMemory as Wants};
+    ghost use Rattle.mol_top.specs.declared.renames.base.InputFault.TheVariants.{Store};
+
+    ghost from_gives = { λ _ input. input ≡ Store Wants };
+
+    fn from(_: OutOfMemory) -> InputFault {
+        InputFault::Store(StoreFault::OutOfMemory)
+    }
+}
+
+impl From<AddressFault> for InputFault {
+    ghost use Rattle.std.specs.Prelude.{◌≡◌};
+    ghost use Rattle.mol_top.specs.renames.Given.{address_input};
+
+    ghost from_gives = { λ fault input. input ≡ address_input fault };
+
+    fn from(fault: AddressFault) -> InputFault {
+        match fault {
+            AddressFault::NotBuilt(path) => InputFault::NotBuilt(path),
+            AddressFault::OutOfMemory => InputFault::Store(StoreFault::OutOfMemory),
+        }
+    }
+}
+
+impl From<InputFault> for Status {
+    ghost use Rattle.std.specs.Prelude.{◌≡◌};
+    ghost use Rattle.mol_top.specs.renames.Given.{input_status};
+
+    ghost from_gives = { λ fault status. status ≡ input_status fault };
+
+    fn from(fault: InputFault) -> Status {
+        match fault {
+            InputFault::Store(fault) => Status::from(fault),
+            InputFault::NotBuilt(path) => Status::NotBuilt(path),
+        }
+    }
+}
+
 /// The base that the files are, of which there are at most 4,096.
-fn base_in(alloc: Global, read: &[File]) -> Result<Base, Status>
+fn base_in(alloc: Global, read: &[File]) -> Result<Base, AddressFault>
     requires { length read.now ≤ most limits.Files }
-    ensures ok { IfOk result (λ base. (unbuilt_file (file_pairs read.now) ≡ None) × IsBase (file_pairs read.now) base) }
-    ensures err { IfErr result (RefusesBy (unbuilt_file (file_pairs read.now))) }
+    ensures base { IfOk result (IsBase (file_pairs read.now)) }
+    ensures built { OnOk result (unbuilt_file (file_pairs read.now) ≡ None) }
+    ensures fault { IfErr result (IsAddressFault (file_pairs read.now)) }
 {
-    let addresses = match read_addresses(alloc, read) {
-        Ok(addresses) => addresses,
-        Err(AddressFault::NotBuilt(k)) => return Err(Status::NotBuilt(read[k].path.copy(alloc)?)),
-        Err(AddressFault::OutOfMemory) => return Err(Status::OutOfMemory),
-    };
+    let addresses = read_addresses(alloc, read)?;
     let table = base_table(alloc, addresses)?;
     let digest = digest_in(alloc, &table)?;
     Ok(Base {
@@ -65,30 +120,30 @@ fn base_in(alloc: Global, read: &[File]) -> Result<Base, Status>
 }
 
 /// The digest of a program.
-fn digest_in(alloc: Global, table: &Table) -> Result<[u8; 32], Status>
-    ensures ok { IfOk result (λ digest. digest ≡ digest_of table.now) }
-    ensures err { IfErr result (λ status. status ≡ Status.OutOfMemory) }
+fn digest_in(alloc: Global, table: &Table) -> Result<[u8; 32], OutOfMemory>
+    ensures { IfOk result (λ digest. digest ≡ digest_of table.now) }
 {
     let rows = rows_of(alloc, table)?;
     let files = files_of(alloc, rows.as_slice())?;
-    Ok(digest_of_files(alloc, files.as_slice())?)
+    digest_of_files(alloc, files.as_slice())
 }
 
 /// The log of this path over a base.
-fn log_in<F: Files>(alloc: Global, path: &Text, base: &Base, files: &mut F) -> Result<Log, Status>
-    ensures holds { F.holds files.new ≡ F.holds files.old }
-    ensures reads { F.read_faults files.old ≤ F.read_faults files.new }
-    ensures writes { F.write_faults files.new ≡ F.write_faults files.old }
-    ensures log { IfOk result (λ log. ForSome (F.holds files.old) (λ held.
-        (read_log_refusal base.now.classes base.now.digest path.now held ≡ None) × (log_there base.now.classes base.now.digest path.now held ≡ Some log))) }
-    ensures stop { IfErr result (Stops (λ p. p ≡ path.now) (F.read_faults files.old) (F.read_faults files.new) (F.holds files.old)
-        (read_log_refusal base.now.classes base.now.digest path.now)) }
-    ensures carries { IfErr result (Carries (λ p. p ≡ path.now) (λ p. p ≡ path.now) NoPath) }
+fn log_in<F: Files>(
+    alloc: Global,
+    path: &Text,
+    base: &Base,
+    files: &mut F,
+) -> Result<Log, InputFault>
+    ensures only_reads { OnlyReads (store F.Files files.old) (store F.Files files.new) }
+    ensures log { IfOk result (λ log. ForSome (F.holds files.old) (λ held. IsLogThere base.now path.now held log)) }
+    ensures stop { IfErr result (StopsLog base.now path.now (store F.Files files.old) (store F.Files files.new)) }
+    ensures carries { IfErr result (λ fault. Carries (Only path.now) (Only path.now) NoPath (input_status fault)) }
 {
     let bytes = read_input(alloc, path, files)?;
     match read_log(alloc, bytes.items(), &base.digest, base.classes)? {
         Some(log) => Ok(log),
-        None => Err(Status::NotBuilt(path.copy(alloc)?)),
+        None => Err(InputFault::NotBuilt(path.copy(alloc)?)),
     }
 }
 
@@ -97,14 +152,11 @@ pub fn read_inputs<F: Files>(
     alloc: Global,
     words: MergeWords<'_>,
     files: &mut F,
-) -> Result<Inputs, Status>
-    ensures holds { F.holds files.new ≡ F.holds files.old }
-    ensures reads { F.read_faults files.old ≤ F.read_faults files.new }
-    ensures writes { F.write_faults files.new ≡ F.write_faults files.old }
+) -> Result<Inputs, InputFault>
+    ensures only_reads { OnlyReads (store F.Files files.old) (store F.Files files.new) }
     ensures inputs { IfOk result (λ inputs. ForSome (F.holds files.old) (λ held. HasInputs (merge_words words.entry) held inputs)) }
-    ensures stop { IfErr result (Stops (IsNamedByMerge (merge_words words.entry) (F.holds files.old)) (F.read_faults files.old) (F.read_faults files.new) (F.holds files.old)
-        (input_refusal (merge_words words.entry))) }
-    ensures carries { IfErr result (CarriesOwn (Command.merge (merge_words words.entry))) }
+    ensures stop { IfErr result (StopsInputs (merge_words words.entry) (store F.Files files.old) (store F.Files files.new)) }
+    ensures carries { IfErr result (λ fault. CarriesOwn (merge_paths (merge_words words.entry)) (input_status fault)) }
 {
     let read = read_base(alloc, words.base, files)?;
     let base = base_in(alloc, read.as_slice())?;

@@ -9,15 +9,15 @@ ghost use Rattle.mol_top.specs.renames.ClassFiles.{address_in as address_in_pair
 ghost use Rattle.mol_top.specs.Files.{file_pairs};
 
 use crate::renames::class_file::{Address, address_in};
-use mol_base::{File, Id, List, OutOfMemory, Tag};
+use mol_base::{File, Id, List, OutOfMemory, Tag, Text};
 use mol_table::{Kind, NewEntity, Notes, Table, Value, Words};
 use std::alloc::{AllocFailed, Global};
 
 /// Why the files of a base are no program.
-#[derive(Clone, Copy, Debug, PartialEq, Eq)]
+#[derive(Debug, Drop)]
 pub enum AddressFault {
-    /// The file at this place is the first that is not of the form that is built.
-    NotBuilt(usize),
+    /// The file of this path, relative to the base, is the first that is not of the form that is built.
+    NotBuilt(Text),
     OutOfMemory,
 }
 
@@ -52,10 +52,10 @@ pub fn read_addresses(alloc: Global, files: &[File]) -> Result<Vec<Address>, Add
     ensures fault { IfErr result (IsAddressFault (file_pairs files.now)) }
 {
     let mut addresses = Vec::new(alloc);
-    for (at, file) in files.iter().enumerate() {
+    for file in files {
         match address_in(alloc, file)? {
             Some(address) => addresses.push(address)?,
-            None => return Err(AddressFault::NotBuilt(at)),
+            None => return Err(AddressFault::NotBuilt(file.path.copy(alloc)?)),
         }
     }
     Ok(addresses)

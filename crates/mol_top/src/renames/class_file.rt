@@ -1,10 +1,8 @@
 //! Files of classes without members.
-ghost use Rattle.std.specs.Prelude.{◌≡◌, ◌&&◌, ◌==◌, ◌<◌, nat_eq, drop, length, option_map, Some, IfOk, IfSome, IsUtf8};
+ghost use Rattle.std.specs.Prelude.{◌≡◌, ◌==◌, ◌<◌, drop, length, option_map, IfOk, IfSome, IsUtf8};
 ghost use Rattle.std.specs.List.{before_first, after_first, position};
-ghost use Rattle.std.specs.Cmp.Lexicographic.{pointwise};
-ghost use Rattle.mol_base.specs.Paths as paths;
 ghost use Rattle.mol_top.specs.renames.ClassFiles as spec;
-ghost use Rattle.mol_top.specs.renames.ClassFiles.{Address as AddressPair, IsClassFile, text_of};
+ghost use Rattle.mol_top.specs.renames.ClassFiles.{IsClassFile, IsOnlyClass, text_of};
 ghost use Rattle.mol_top.specs.renames.Addresses.{address_pair};
 ghost use Rattle.mol_top.specs.Files.{file_pair};
 
@@ -24,7 +22,7 @@ pub struct Address {
 pub fn address_in(alloc: Global, file: &File) -> Result<Option<Address>, OutOfMemory>
     ensures answer { IfOk result (λ found. option_map address_pair found ≡ spec.address_in (file_pair file.now)) }
     ensures spells { IfOk result (λ found. IfSome found (λ address. IsClassFile (file_pair file.now) (address_pair address))) }
-    ensures only { IfOk result (λ found. (address : AddressPair) → IsClassFile (file_pair file.now) address → option_map address_pair found ≡ Some address) }
+    ensures only { IfOk result (λ found. IsOnlyClass (file_pair file.now) (option_map address_pair found)) }
 {
     let (package, name) = cut_address(file.bytes.items());
     if is_package(package) && is_class_name(name) && is_file_of(alloc, file, package, name)? {
@@ -79,7 +77,7 @@ fn place_of(bytes: &[u8], byte: u8) -> Option<usize>
 
 /// Whether the file is the one of the class of this package and this name.
 fn is_file_of(alloc: Global, file: &File, package: &[u8], name: &[u8]) -> Result<bool, OutOfMemory>
-    ensures { IfOk result (λ same. same ≡ (pointwise nat_eq (text_of «package».now name.now) file.now.bytes && pointwise nat_eq (paths.path_of «package».now name.now) file.now.path)) }
+    ensures { IfOk result (λ same. same ≡ spec.is_file_of (file_pair file.now) («package».now, name.now)) }
 {
     let text = class_text(alloc, package, name)?;
     let path = path_of(alloc, package, name)?;

@@ -1,12 +1,10 @@
 //! The files of living classes, and their digest.
 ghost use Rattle.std.specs.Prelude.{◌≡◌, ◌++◌, map, IfOk, OnOk};
 ghost use Rattle.std.specs.List.{concat};
-ghost use Rattle.std.specs.FinMap.{entries, from_entries};
 ghost use Rattle.sha2.specs.Sha256.{sha256};
-ghost use Rattle.mol_top.specs.Files.{FilePair, file_pair, file_pairs};
-ghost use Rattle.mol_top.specs.renames.ClassFiles.{bundled, file_of as file_of_class};
+ghost use Rattle.mol_top.specs.Files.{file_pair, file_pairs};
+ghost use Rattle.mol_top.specs.renames.ClassFiles.{bundled, class_list, file_of as file_of_class};
 ghost use Rattle.mol_top.specs.renames.Rows.{class_in, classes_in};
-ghost use Rattle.mol_outside.specs.Contents.{Contents};
 
 use crate::append::push_number;
 use crate::renames::class_file::{class_text, utf8_text};
@@ -19,7 +17,7 @@ use std::collections::BTreeMap;
 /// The files of these classes in the order of their paths. Where two classes have one path, the file
 /// of the earlier row is kept. The time is n log n in the number of rows, and linear in their bytes.
 pub fn files_of(alloc: Global, rows: &[Row<'_>]) -> Result<Vec<File>, OutOfMemory>
-    ensures { IfOk result (λ files. let held : Contents = from_entries (map file_of_class (classes_in rows.now)) in file_pairs files.items ≡ entries held) }
+    ensures { IfOk result (λ files. file_pairs files.items ≡ class_list (classes_in rows.now)) }
 {
     let placed = placed_files(alloc, rows)?;
     let mut files = Vec::new(alloc);
@@ -31,7 +29,7 @@ pub fn files_of(alloc: Global, rows: &[Row<'_>]) -> Result<Vec<File>, OutOfMemor
 
 /// The files by their paths. Going from the last row to the first, the first file of a path stays.
 fn placed_files(alloc: Global, rows: &[Row<'_>]) -> Result<BTreeMap<Text, List<u8>>, OutOfMemory>
-    ensures { IfOk result (λ placed. let held : Contents = from_entries (map file_of_class (classes_in rows.now)) in placed.entries ≡ entries held) }
+    ensures { IfOk result (λ placed. placed.entries ≡ class_list (classes_in rows.now)) }
 {
     let mut placed = BTreeMap::new(alloc);
     for at in (0..rows.len()).rev() {

@@ -1,11 +1,9 @@
 //! The merge of two logs over a base.
-ghost use Rattle.std.specs.Prelude.{◌≡◌, ◌≢◌, ℕ, None, Some, IfOk, IfErr, OnOk, OnErr, IsSome, slice_get};
-ghost use Rattle.mol_table.specs.Program.{Program};
-ghost use Rattle.mol_top.specs.renames.Faults.{faults as faults_of};
-ghost use Rattle.mol_top.specs.renames.Merging.{AreRowsOf, IsMerge, IsSettled, IsUnited};
-ghost use Rattle.mol_top.specs.renames.MergeRefusals.{merge_refusal, replay_refusal};
+ghost use Rattle.std.specs.Prelude.{◌≡◌, None, IfOk, IfErr, OnOk};
+ghost use Rattle.mol_top.specs.renames.MergeRefusals.{merge_refusal};
+ghost use Rattle.mol_top.specs.renames.Merging.{AreRowsOf, IsMerge, IsReplayFault, IsSettled, IsUnited};
+ghost use Rattle.mol_top.specs.renames.Merging.{RefusesLogs, RefusesReplay, Replays};
 ghost use Rattle.mol_top.specs.renames.Rows.{classes_in};
-ghost use Rattle.mol_top.specs.renames.Writes.{after};
 
 use crate::renames::class_files::files_of;
 use crate::renames::classes::rows_of;
@@ -17,7 +15,7 @@ use crate::renames::rows::Row;
 use crate::renames::same_address::{first_same_address, same_addresses};
 use crate::renames::two_logs::{in_order, shared_tag};
 use crate::renames::unite::united_rows;
-use crate::{Conflict, Fault, Log, LogCause, ReplayFault, Status};
+use crate::{Conflict, Fault, Log, LogCause, ReplayFault};
 use mol_base::{File, OutOfMemory};
 use mol_table::Table;
 use std::alloc::Global;
@@ -38,18 +36,37 @@ pub enum United {
     Conflicts(Vec<Conflict>),
 }
 
+/// Why two logs are not merged.
+#[derive(Debug, Drop)]
+pub enum MergeFault {
+    /// The log of this number, 1 or 2, is refused.
+    Log(u8, LogCause),
+    OutOfMemory,
+}
+
+impl From<OutOfMemory> for MergeFault {
+    ghost use Rattle.std.specs.Prelude.{◌≡◌};
+    ghost use Rattle.mol_top.specs.declared.renames.merge.MergeFault.TheVariants.{OutOfMemory as Wants};
+
+    ghost from_gives = { λ _ fault. fault ≡ Wants };
+
+    fn from(_: OutOfMemory) -> MergeFault {
+        MergeFault::OutOfMemory
+    }
+}
+
 /// Merges two logs over a base.
 ///
 /// Refuses, in this order, logs of one first tag, and a log that leaves two classes of one address, the
 /// first log before the second. The order of the logs decides nothing else. The time is linear in the
 /// classes, the entries and the answer, but for the sorting of the paths.
-pub fn merge_logs(alloc: Global, base: &Table, first: Log, second: Log) -> Result<Merge, Status>
-    ensures refused { IfErr result (λ status. status ≢ Status.OutOfMemory → merge_refusal base.now first second ≡ Some status) }
+pub fn merge_logs(alloc: Global, base: &Table, first: Log, second: Log) -> Result<Merge, MergeFault>
+    ensures refused { IfErr result (RefusesLogs (merge_refusal base.now first second)) }
     ensures allowed { OnOk result (merge_refusal base.now first second ≡ None) }
     ensures answer { IfOk result (IsMerge base.now first second) }
 {
-    if let Some(status) = shared_tag(&first, &second) {
-        return Err(status);
+    if let Some(tag) = shared_tag(&first, &second) {
+        return Err(MergeFault::Log(2, LogCause::SharedTag(tag)));
     }
     let rows = base_rows(alloc, base)?;
     refuse_replay(alloc, &rows, 1, &first)?;
@@ -71,22 +88,19 @@ fn base_rows<'a>(alloc: Global, base: &'a Table) -> Result<Vec<Row<'a>>, OutOfMe
 }
 
 /// Refuses the log of this number where what it leaves of the base of these rows has a fault.
-fn refuse_replay(alloc: Global, rows: &[Row<'_>], which: u8, log: &Log) -> Result<(), Status>
-    ensures refused { IfErr result (λ status. status ≢ Status.OutOfMemory → (base : Program) → AreRowsOf base rows.now → replay_refusal base which log.now ≡ Some status) }
-    ensures allowed { OnOk result ((base : Program) → AreRowsOf base rows.now → replay_refusal base which log.now ≡ None) }
+fn refuse_replay(alloc: Global, rows: &[Row<'_>], which: u8, log: &Log) -> Result<(), MergeFault>
+    ensures refused { IfErr result (RefusesReplay rows.now which log.now) }
+    ensures allowed { OnOk result (Replays rows.now which log.now) }
 {
     match replay_fault(alloc, rows, log)? {
-        Some(fault) => Err(Status::LogRefused(
-            which,
-            LogCause::Replay(ReplayFault::NotClean(fault)),
-        )),
+        Some(fault) => Err(MergeFault::Log(which, LogCause::Replay(ReplayFault::NotClean(fault)))),
         None => Ok(()),
     }
 }
 
 /// The first fault of what a log leaves of the base of these rows, if it leaves one.
 fn replay_fault(alloc: Global, rows: &[Row<'_>], log: &Log) -> Result<Option<Fault>, OutOfMemory>
-    ensures { IfOk result (λ fault. (base : Program) → AreRowsOf base rows.now → fault ≡ slice_get (faults_of (after base log.now.entries)) 0) }
+    ensures { IfOk result (IsReplayFault rows.now log.now) }
 {
     let writes = LastWrites::of(alloc, log)?;
     let left = rows_after(alloc, rows, &writes)?;

@@ -1,15 +1,18 @@
 //! What a merge prints.
 ghost use Rattle.std.specs.Prelude.{◌≡◌, IfOk};
-ghost use Rattle.mol_top.specs.renames.ConflictReport.{merge_report as merge_report_of};
+ghost use Rattle.mol_top.specs.renames.ConflictReport.{merge_report as merge_report_of, replay_line as replay_line_of};
 
 mod conflicts;
 mod pieces;
 mod values;
 
+use crate::Fault;
 use crate::append::push_number;
+use crate::report::log_line;
 pub use conflicts::conflicts_report;
 use mol_base::OutOfMemory;
-pub use pieces::push_fault;
+use mol_table::Table;
+use pieces::push_fault;
 use std::alloc::Global;
 
 /// The report of a merge that wrote so many files and a log of so many operations.
@@ -22,4 +25,18 @@ pub fn merge_report(alloc: Global, files: usize, operations: usize) -> Result<Ve
     push_number(alloc, &mut report, operations as u64)?;
     report.push(b'\n')?;
     Ok(report)
+}
+
+/// The line of a log that does not replay on a base: its number, and the first fault of what it leaves.
+pub fn replay_line(
+    alloc: Global,
+    base: &Table,
+    which: u8,
+    fault: &Fault,
+) -> Result<Vec<u8>, OutOfMemory>
+    ensures { IfOk result (λ line. line.items ≡ replay_line_of base.now which fault.now) }
+{
+    let mut cause = Vec::from_slice(alloc, b"not-clean ")?;
+    push_fault(alloc, &mut cause, base, fault)?;
+    log_line(alloc, which, cause.as_slice())
 }

@@ -1,8 +1,7 @@
 //! The stamps of a conflict.
-ghost use Rattle.std.specs.Prelude.{◌≡◌, IfOk, OnOk, option_copied, option_map};
-ghost use Rattle.std.specs.List.{flat_map};
-ghost use Rattle.mol_top.specs.renames.Merge.{put_stamp as put_stamp_of, ascending, writers, support};
-ghost use Rattle.mol_top.specs.renames.Writers.{with_writer};
+ghost use Rattle.std.specs.Prelude.{◌≡◌, IfOk, OnOk, option_copied};
+ghost use Rattle.mol_top.specs.renames.Merge.{brought_by, put_stamp as put_stamp_of};
+ghost use Rattle.mol_top.specs.renames.Writers.{stamp_in, with_writer};
 
 use crate::renames::last_writes::LastWrites;
 use crate::{Entry, Fault};
@@ -17,7 +16,7 @@ pub fn stamps_of(
     one: &LastWrites,
     other: &LastWrites,
 ) -> Result<List<Stamp>, OutOfMemory>
-    ensures { IfOk result (λ stamps. stamps ≡ ascending (flat_map (writers one.now other.now) (support fault.now))) }
+    ensures { IfOk result (λ stamps. stamps ≡ brought_by one.now other.now fault.now) }
 {
     match fault {
         Fault::SameAddress(earlier, later) => name_stamps(alloc, earlier, later, one, other),
@@ -32,7 +31,7 @@ fn name_stamps(
     one: &LastWrites,
     other: &LastWrites,
 ) -> Result<List<Stamp>, OutOfMemory>
-    ensures { IfOk result (λ stamps. stamps ≡ ascending (flat_map (writers one.now other.now) (support (Fault.SameAddress earlier.now later.now)))) }
+    ensures { IfOk result (λ stamps. stamps ≡ brought_by one.now other.now (Fault.SameAddress earlier.now later.now)) }
 {
     let mut stamps = Vec::new(alloc);
     put_writer(&mut stamps, other.get(later))?;
@@ -44,7 +43,7 @@ fn name_stamps(
 
 /// Puts the stamp of an entry, if there is one, among ascending ones, unless it is there.
 fn put_writer(stamps: &mut Vec<Stamp>, writer: Option<&Entry>) -> Result<(), OutOfMemory>
-    ensures { OnOk result (stamps.new.items ≡ with_writer (option_map (λ entry. entry.stamp) (option_copied writer.entry)) stamps.old.items) }
+    ensures { OnOk result (stamps.new.items ≡ with_writer (stamp_in (option_copied writer.entry)) stamps.old.items) }
 {
     match writer {
         Some(entry) => put_stamp(stamps, entry.stamp),

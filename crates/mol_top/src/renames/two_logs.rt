@@ -3,7 +3,7 @@ ghost use Rattle.std.specs.Prelude.{◌≡◌};
 ghost use Rattle.mol_top.specs.renames.Merge.{first_tag as first_tag_of, lesser, greater};
 ghost use Rattle.mol_top.specs.renames.MergeRefusals.{shared_tag as shared_tag_of};
 
-use crate::{Log, LogCause, Status};
+use crate::Log;
 use mol_base::Tag;
 
 /// The first tag of a log, or that of a base where the log has none. It takes no memory.
@@ -28,13 +28,13 @@ pub fn in_order(first: Log, second: Log) -> (Log, Log)
     }
 }
 
-/// Refuses the second log where both have one first tag. It takes no memory.
-pub fn shared_tag(first: &Log, second: &Log) -> Option<Status>
+/// The first tag of both logs, where they have one. It takes no memory.
+pub fn shared_tag(first: &Log, second: &Log) -> Option<Tag>
     ensures { result ≡ shared_tag_of first.now second.now }
 {
     let tag = first_tag(first);
     if tag == first_tag(second) {
-        Some(Status::LogRefused(2, LogCause::SharedTag(tag)))
+        Some(tag)
     } else {
         None
     }

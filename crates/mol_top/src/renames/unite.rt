@@ -1,9 +1,7 @@
 //! Rows after the writes of two logs.
-ghost use Rattle.std.specs.Prelude.{◌≡◌, IfOk, map};
-ghost use Rattle.std.specs.Option.{option_or};
-ghost use Rattle.mol_top.specs.renames.Renaming.{renamed};
+ghost use Rattle.std.specs.Prelude.{◌≡◌, IfOk};
+ghost use Rattle.mol_top.specs.renames.Renaming.{renamed_by_both};
 ghost use Rattle.mol_top.specs.renames.Rows.{classes_in};
-ghost use Rattle.mol_top.specs.renames.Writes.{value_by};
 
 use crate::renames::last_writes::LastWrites;
 use crate::renames::replay::rows_after;
@@ -19,7 +17,7 @@ pub fn united_rows<'a>(
     one: &LastWrites<'a>,
     other: &LastWrites<'a>,
 ) -> Result<Vec<Row<'a>>, OutOfMemory>
-    ensures { IfOk result (λ united. classes_in united.items ≡ map (renamed (λ at. option_or (value_by other.now.entries at) (value_by one.now.entries at))) (classes_in rows.now)) }
+    ensures { IfOk result (λ united. classes_in united.items ≡ renamed_by_both one.now.entries other.now.entries (classes_in rows.now)) }
 {
     let rows = rows_after(alloc, rows, one)?;
     rows_after(alloc, &rows, other)

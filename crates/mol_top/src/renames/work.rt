@@ -1,25 +1,26 @@
 //! What a merge of two logs writes and prints.
-ghost use Rattle.std.specs.Prelude.{◌≡◌, ◌≤◌, IfOk, IfErr, None};
-ghost use Rattle.std.specs.Option.{ForSome};
+ghost use Rattle.std.specs.Prelude.{◌≡◌, IfOk, OnOk, IfErr, None};
 ghost use Rattle.mol_top.specs.Carried.{CarriesOwn};
-ghost use Rattle.mol_top.specs.renames.MergeOutcome.{outcome};
-ghost use Rattle.mol_top.specs.Output.{IsReady, IsWork};
-ghost use Rattle.mol_top.specs.renames.MergeRefusals.{merge_refusal};
+ghost use Rattle.mol_top.specs.Command.{merge_paths};
 ghost use Rattle.mol_top.specs.Files.{file_pairs};
-ghost use Rattle.mol_top.specs.Steps.{RefusesBy};
-ghost use Rattle.mol_top.specs.Command.{Command};
-ghost use Rattle.mol_top.specs.Prepared.{IsPrepared, IsStopped};
-ghost use Rattle.mol_top.specs.Words.{merge_words};
-ghost use Rattle.mol_top.specs.renames.Working.{IsMergedWork, IsConflictingWork};
+ghost use Rattle.mol_top.specs.Output.{IsReady, IsWork};
+ghost use Rattle.mol_top.specs.Outside.{OnlyReads, store};
+ghost use Rattle.mol_top.specs.Prepared.{IsStopped, Prepares};
+ghost use Rattle.mol_top.specs.Words.{merge_command, merge_words};
+ghost use Rattle.mol_top.specs.renames.MergeOutcome.{outcome};
+ghost use Rattle.mol_top.specs.renames.MergeRefusals.{merge_refusal};
+ghost use Rattle.mol_top.specs.renames.Merging.{RefusesLogs};
+ghost use Rattle.mol_top.specs.renames.Working.{IsMergedWork, IsConflictingWork, IsRefusalOf};
 
 use crate::command::MergeWords;
-use crate::output::{Refusal, Work, below, failure_lines};
+use crate::output::{Work, below, failure_lines};
+use crate::refusal::{Line, Refusal};
 use crate::renames::base::{Inputs, read_inputs};
 use crate::renames::log_text::write_log;
-use crate::renames::merge::{Merge, merge_logs};
-use crate::renames::report::{conflicts_report, merge_report};
+use crate::renames::merge::{Merge, MergeFault, merge_logs};
+use crate::renames::report::{conflicts_report, merge_report, replay_line};
 use crate::store::join;
-use crate::{Conflict, Log, Status};
+use crate::{Conflict, Fault, Log, LogCause, ReplayFault, Status};
 use mol_base::{File, OutOfMemory, Text};
 use mol_outside::Files;
 use mol_table::Table;
@@ -34,19 +35,14 @@ pub fn prepare_merge<F: Files>(
     words: MergeWords<'_>,
     files: &mut F,
 ) -> Result<Work, Refusal>
-    ensures holds { F.holds files.new ≡ F.holds files.old }
-    ensures reads { F.read_faults files.old ≤ F.read_faults files.new }
-    ensures writes { F.write_faults files.new ≡ F.write_faults files.old }
+    ensures only_reads { OnlyReads (store F.Files files.old) (store F.Files files.new) }
     ensures ready { IfOk result IsReady }
-    ensures work { IfOk result (λ work. ForSome (F.holds files.old) (λ held. IsPrepared (Command.merge (merge_words words.entry)) held work)) }
-    ensures stop { IfErr result (IsStopped (Command.merge (merge_words words.entry)) (F.holds files.old) (F.read_faults files.old) (F.read_faults files.new)) }
-    ensures carries { IfErr result (λ refusal. CarriesOwn (Command.merge (merge_words words.entry)) refusal.status) }
+    ensures work { IfOk result (Prepares (merge_command words.entry) (store F.Files files.old)) }
+    ensures stop { IfErr result (IsStopped (merge_command words.entry) (store F.Files files.old) (store F.Files files.new)) }
+    ensures carries { IfErr result (λ refusal. CarriesOwn (merge_paths (merge_words words.entry)) refusal.status) }
 {
     match read_inputs(alloc, words, files) {
-        Err(status) => Err(Refusal {
-            status,
-            base: Table::new(alloc),
-        }),
+        Err(fault) => Err(Refusal::of(alloc, Status::from(fault))),
         Ok(
             Inputs {
                 base,
@@ -54,16 +50,49 @@ pub fn prepare_merge<F: Files>(
                 second,
             },
         ) => match work_of(alloc, words.out, &base, first, second) {
-            Err(status) => Err(Refusal { status, base }),
+            Err(fault) => Err(refusal_of(alloc, &base, fault)),
             Ok(work) => Ok(work),
         },
     }
 }
 
+/// The refusal of logs over a base.
+fn refusal_of(alloc: Global, base: &Table, fault: MergeFault) -> Refusal
+    ensures { IsRefusalOf base.now fault result }
+{
+    match fault {
+        MergeFault::Log(which, LogCause::Replay(ReplayFault::NotClean(fault))) => {
+            replay_refusal(alloc, base, which, fault)
+        }
+        MergeFault::Log(which, cause) => Refusal::of(alloc, Status::LogRefused(which, cause)),
+        MergeFault::OutOfMemory => Refusal::out_of_memory(),
+    }
+}
+
+/// The refusal of a log that does not replay on a base. Its line names addresses of the base.
+fn replay_refusal(alloc: Global, base: &Table, which: u8, fault: Fault) -> Refusal
+    ensures { IsRefusalOf base.now (MergeFault.Log which (LogCause.Replay (ReplayFault.NotClean fault))) result }
+{
+    match replay_line(alloc, base, which, &fault) {
+        Ok(line) => Refusal {
+            status: Status::LogRefused(which, LogCause::Replay(ReplayFault::NotClean(fault))),
+            line: Line::Made(line),
+        },
+        Err(OutOfMemory) => Refusal::out_of_memory(),
+    }
+}
+
 /// All that the merge of two logs over a base writes and prints.
-fn work_of(alloc: Global, out: &Text, base: &Table, first: Log, second: Log) -> Result<Work, Status>
-    ensures ok { IfOk result (λ work. (merge_refusal base.now first second ≡ None) × IsWork work (outcome out.now base.now first second)) }
-    ensures err { IfErr result (RefusesBy (merge_refusal base.now first second)) }
+fn work_of(
+    alloc: Global,
+    out: &Text,
+    base: &Table,
+    first: Log,
+    second: Log,
+) -> Result<Work, MergeFault>
+    ensures work { IfOk result (λ work. IsWork work (outcome out.now base.now first second)) }
+    ensures allowed { OnOk result (merge_refusal base.now first second ≡ None) }
+    ensures refused { IfErr result (RefusesLogs (merge_refusal base.now first second)) }
 {
     match merge_logs(alloc, base, first, second)? {
         Merge::Merged(files, log) => Ok(merged_work(alloc, out, files, log)?),

@@ -21,4 +21,4 @@ pub loop-file-preserved : goal.loop-file-preserved
 loop-file-preserved c =
     rw (c.in_ok-push.ensures.items, c.in_ok-push-2.ensures.items, map_push file_pair c.loop-file.yielded c.in-Some.file, map_push file_pair c.loop-file.texts.items _)
     (formatted-push (file_pairs c.loop-file.yielded) (file_pairs c.loop-file.texts.items) c.loop-file.heights.items (file_pair c.in-Some.file) _ _ c.loop-file.invariant refl
-    (rw c.items.ensures at c.in_ok-text.ensures.text))
+    (rw (c.items.ensures, ← c.fitted-bytes.ensures) at c.in_ok-text.ensures.text))

@@ -1,5 +1,5 @@
 use Rattle.std.proofs.Common.{◌≡◌}
-use Rattle.mol_top.specs.Formatting.{below}
+use Rattle.mol_top.specs.Output.{below}
 use Rattle.mol_top.specs.Files.{file_pairs}
 use Rattle.mol_top.proofs.output.below.Given as goal
 

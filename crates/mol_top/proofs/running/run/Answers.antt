@@ -1,38 +1,54 @@
+use Rattle.mol_top.specs.Outside.{state, store}
 use Rattle.mol_top.specs.Words.{command_of}
-use Rattle.mol_top.proofs.Answering.{says_stopped, stopped_prefix, usage_prefix, done_cause, leaves, leaves_prefix, either_order}
+use Rattle.mol_top.proofs.Answering.{no_command, stopped, refused_prefix, left_from, done_cause, done_leaves, done_prefix, either_order}
+use Rattle.mol_top.proofs.ReadingBack.{files_read_back}
 use Rattle.mol_top.proofs.running.run.Goals as goal
 
 pub returns-in-None-clause-prefix : goal.returns-in-None-clause-prefix
 returns-in-None-clause-prefix g c =
-    rw (← c.items.ensures, ← c.in-None.ensures) (usage_prefix (record { reads = g.F.Files.read_faults c.args.files.now; writes = g.F.Files.write_faults c.args.files.now; sink = g.S.Sink.faults c.args.out.now }) (record { reads = g.F.Files.read_faults c.args.files.now; writes = g.F.Files.write_faults c.args.files.now; sink = g.S.Sink.faults c.refuse-in-None.new.out }) (g.F.Files.holds c.args.files.now) _ _ c.new.result _ c.refuse-in-None.ensures.answer c.refuse-in-None.ensures.part)
-
-pub returns-in-Err-clause-line : goal.returns-in-Err-clause-line
-returns-in-Err-clause-line g c =
-    rw (← c.items.ensures, ← c.in-Some.ensures) (says_stopped (command_of c.in-Some.command) (g.F.Files.holds c.args.files.now) _ _ _ _ c.in-Err.field-0.base c.in-Err.field-0.status _
-    c.in-Err.ensures.stop.base c.refuse-in-Err.ensures.answer c.refuse-in-Err.ensures.line)
+    let old = state g.F.Files g.S.Sink c.args.files.now c.args.out.now in
+    let new = state g.F.Files g.S.Sink c.args.files.now c.refuse.new.out in
+    rw (← c.items.ensures, ← c.in-None.ensures)
+    (refused_prefix _ old new c.usage.result (no_command old new c.usage.result c.usage.ensures.status c.usage.ensures.line (λ i. old.store.held)) c.refuse.result
+    c.refuse.ensures.answer c.refuse.ensures.part)
 
 pub returns-in-Err-clause-prefix : goal.returns-in-Err-clause-prefix
 returns-in-Err-clause-prefix g c =
-    rw (← c.items.ensures, ← c.in-Some.ensures) (stopped_prefix (record { reads = g.F.Files.read_faults c.args.files.now; writes = g.F.Files.write_faults c.args.files.now; sink = g.S.Sink.faults c.args.out.now }) (record { reads = g.F.Files.read_faults c.prepare.new.files; writes = g.F.Files.write_faults c.prepare.new.files; sink = g.S.Sink.faults c.refuse-in-Err.new.out }) (command_of c.in-Some.command) (g.F.Files.holds c.args.files.now) _ _ _ c.in-Err.field-0 _
-    c.in-Err.ensures.stop c.prepare.ensures.holds c.refuse-in-Err.ensures.answer c.refuse-in-Err.ensures.part)
+    let old = state g.F.Files g.S.Sink c.args.files.now c.args.out.now in
+    let new = state g.F.Files g.S.Sink c.prepare.new.files c.refuse-in-Err.new.out in
+    rw (← c.items.ensures, ← c.in-Some.ensures)
+    (refused_prefix _ old new c.in-Err.refusal (stopped (command_of c.in-Some.command) old new c.in-Err.refusal c.in-Err.ensures.stop c.prepare.ensures.only_reads.held) c.refuse-in-Err.result
+    c.refuse-in-Err.ensures.answer c.refuse-in-Err.ensures.part)
+
+pub returns-in-Err-clause-read_back : goal.returns-in-Err-clause-read_back
+returns-in-Err-clause-read_back g c = λ command is held. files_read_back command held
 
 pub returns-in-Err-clause-either_order : goal.returns-in-Err-clause-either_order
 returns-in-Err-clause-either_order g c = λ command is held. either_order command held
 
 pub returns-in-Ok-clause-cause : goal.returns-in-Ok-clause-cause
 returns-in-Ok-clause-cause g c =
-    rw (← c.items.ensures, ← c.in-Some.ensures) (done_cause (record { reads = g.F.Files.read_faults c.args.files.now; writes = g.F.Files.write_faults c.args.files.now; sink = g.S.Sink.faults c.args.out.now }) (record { reads = g.F.Files.read_faults c.carry_out.new.files; writes = g.F.Files.write_faults c.carry_out.new.files; sink = g.S.Sink.faults c.carry_out.new.out }) (command_of c.in-Some.command) (g.F.Files.holds c.args.files.now) c.in-Ok.work c.in-Ok.ensures.work _
-    (rw (← c.prepare.ensures.writes) c.carry_out.ensures.answer))
+    let old = state g.F.Files g.S.Sink c.args.files.now c.args.out.now in
+    let new = state g.F.Files g.S.Sink c.carry_out.new.files c.carry_out.new.out in
+    rw (← c.items.ensures, ← c.in-Some.ensures) (done_cause (command_of c.in-Some.command) old new c.in-Ok.work c.in-Ok.ensures.work c.carry_out.result
+    (rw c.prepare.ensures.only_reads.writes at c.carry_out.ensures.answer))
 
 pub returns-in-Ok-clause-outcome : goal.returns-in-Ok-clause-outcome
 returns-in-Ok-clause-outcome g c =
-    rw (← c.items.ensures, ← c.in-Some.ensures) (leaves (record { reads = g.F.Files.read_faults c.args.files.now; writes = g.F.Files.write_faults c.args.files.now; sink = g.S.Sink.faults c.args.out.now }) (record { reads = g.F.Files.read_faults c.carry_out.new.files; writes = g.F.Files.write_faults c.carry_out.new.files; sink = g.S.Sink.faults c.carry_out.new.out }) (command_of c.in-Some.command) (g.F.Files.holds c.args.files.now) c.in-Ok.work c.in-Ok.ensures.work _ _ _ _
-    (rw c.prepare.ensures.holds at c.carry_out.ensures.files) c.carry_out.ensures.report)
+    let old = state g.F.Files g.S.Sink c.args.files.now c.args.out.now in
+    let new = state g.F.Files g.S.Sink c.carry_out.new.files c.carry_out.new.out in
+    rw (← c.items.ensures, ← c.in-Some.ensures) (done_leaves (command_of c.in-Some.command) old new c.in-Ok.work c.in-Ok.ensures.work c.carry_out.result
+    (rw c.prepare.ensures.only_reads.held at c.carry_out.ensures.files) c.carry_out.ensures.report)
 
 pub returns-in-Ok-clause-prefix : goal.returns-in-Ok-clause-prefix
 returns-in-Ok-clause-prefix g c =
-    rw (← c.items.ensures, ← c.in-Some.ensures) (leaves_prefix (record { reads = g.F.Files.read_faults c.args.files.now; writes = g.F.Files.write_faults c.args.files.now; sink = g.S.Sink.faults c.args.out.now }) (record { reads = g.F.Files.read_faults c.carry_out.new.files; writes = g.F.Files.write_faults c.carry_out.new.files; sink = g.S.Sink.faults c.carry_out.new.out }) (command_of c.in-Some.command) (g.F.Files.holds c.args.files.now) c.in-Ok.work c.in-Ok.ensures.work _ _ _ _
-    (rw c.prepare.ensures.holds at c.carry_out.ensures.left))
+    let old = state g.F.Files g.S.Sink c.args.files.now c.args.out.now in
+    let new = state g.F.Files g.S.Sink c.carry_out.new.files c.carry_out.new.out in
+    rw (← c.items.ensures, ← c.in-Some.ensures) (done_prefix (command_of c.in-Some.command) old new c.in-Ok.work c.in-Ok.ensures.work c.carry_out.result
+    (left_from c.in-Ok.work old new (store g.F.Files c.prepare.new.files) c.carry_out.result c.prepare.ensures.only_reads.held c.carry_out.ensures.left))
+
+pub returns-in-Ok-clause-read_back : goal.returns-in-Ok-clause-read_back
+returns-in-Ok-clause-read_back g c = λ command is held. files_read_back command held
 
 pub returns-in-Ok-clause-either_order : goal.returns-in-Ok-clause-either_order
 returns-in-Ok-clause-either_order g c = λ command is held. either_order command held

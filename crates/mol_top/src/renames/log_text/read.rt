@@ -2,7 +2,9 @@
 ghost use Rattle.std.specs.Prelude.{◌≡◌, IfOk, IfSome, Some, drop};
 ghost use Rattle.mol_top.specs.declared.renames.log.Log.{Log as LogSeen};
 ghost use Rattle.mol_top.specs.renames.LogText.{IsLogText};
-ghost use Rattle.mol_top.specs.renames.LogRead.{lines_of, first_tag as first_tag_of, entries_of, are_built as are_all_built, is_built_entry as is_built_entry_of, is_built_op as is_built_op_of, log_from as log_from_of, log_of};
+ghost use Rattle.mol_top.specs.renames.LogRead.{entries_of, first_tag as first_tag_of, lines_of, log_from as log_from_of, log_of};
+ghost use Rattle.mol_top.specs.renames.LogRead.{are_built as are_all_built, is_built_entry as is_built_entry_of};
+ghost use Rattle.mol_top.specs.renames.LogRead.{is_built_op as is_built_op_of};
 
 use crate::renames::log_text::line::{entry_of_line, tag_of_line};
 use crate::renames::log_text::write::write_log;

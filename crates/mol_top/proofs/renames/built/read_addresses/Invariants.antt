@@ -5,9 +5,9 @@ use Rattle.mol_top.specs.renames.ClassFiles.{address_in}
 use Rattle.mol_top.specs.Files.{file_pairs}
 use Rattle.mol_top.proofs.renames.built.read_addresses.Given as goal
 
-abbrev pub invariant-loop-at : goal.invariant-loop-at
-invariant-loop-at l = record {
-  count : length l.addresses.items ≡ l.at;
-  read : address_pairs l.addresses.items ≡ filter_map address_in (file_pairs (take l.at l.files));
-  built : find is_unbuilt (file_pairs (take l.at l.files)) ≡ None;
+abbrev pub invariant-loop-file : goal.invariant-loop-file
+invariant-loop-file l = record {
+  count : length l.addresses.items ≡ l.file-index;
+  read : address_pairs l.addresses.items ≡ filter_map address_in (file_pairs (take l.file-index l.files));
+  built : find is_unbuilt (file_pairs (take l.file-index l.files)) ≡ None;
 }

@@ -1,9 +1,9 @@
 use Rattle.std.proofs.Common.{◌≡◌, ◌≤◌, drop}
 use Rattle.mol_base.specs.Limits.{most}
 use Rattle.mol_base.specs.declared.limit.Which.TheVariants.{SourceBytes}
-use Rattle.mol_top.specs.Formatting.{long_texts}
+use Rattle.mol_top.specs.Output.{long_texts}
 use Rattle.mol_top.specs.Files.{file_pairs}
-use Rattle.mol_top.proofs.formatting.refuse_long_texts.Given as goal
+use Rattle.mol_top.proofs.output.refuse_long_texts.Given as goal
 
 abbrev pub invariant-loop-text : goal.invariant-loop-text
 invariant-loop-text l =

@@ -1,0 +1,128 @@
+//! Why the calls below a run fail, and what is answered to each fault.
+use crate::status::{BaseFault, Status};
+use mol_base::{OutOfMemory, Text, Which};
+use std::alloc::AllocFailed;
+
+/// A number that passes its limit.
+#[derive(Clone, Copy, Debug, PartialEq, Eq)]
+pub struct LimitFault {
+    pub which: Which,
+    pub number: u64,
+}
+
+/// Why a step does not get what it asks of the store.
+#[derive(Debug, Drop)]
+pub enum StoreFault {
+    /// A listing or a read failed, of the folder or file of this path.
+    ReadFailed(Text),
+    /// An input file is not there, or the folder of this path has no Java file.
+    Missing(Text),
+    /// A file is there already where files are to be written.
+    OutInUse(Text),
+    Limit(LimitFault),
+    OutOfMemory,
+}
+
+/// Why files have no texts in the one layout.
+#[derive(Debug, Drop)]
+pub enum FormatFault {
+    Base(BaseFault),
+    OutOfMemory,
+}
+
+impl From<LimitFault> for StoreFault {
+    ghost use Rattle.std.specs.Prelude.{◌≡◌};
+    ghost use Rattle.mol_top.specs.declared.fault.StoreFault.TheVariants.{Limit};
+
+    ghost from_gives = { λ limit fault. fault ≡ Limit limit };
+
+    fn from(limit: LimitFault) -> StoreFault {
+        StoreFault::Limit(limit)
+    }
+}
+
+impl From<OutOfMemory> for StoreFault {
+    ghost use Rattle.std.specs.Prelude.{◌≡◌};
+    ghost use Rattle.mol_top.specs.declared.fault.StoreFault.TheVariants.{OutOfMemory as Wants};
+
+    ghost from_gives = { λ _ fault. fault ≡ Wants };
+
+    fn from(_: OutOfMemory) -> StoreFault {
+        StoreFault::OutOfMemory
+    }
+}
+
+impl<T: Drop> From<AllocFailed<T>> for StoreFault {
+    ghost use Rattle.std.specs.Prelude.{◌≡◌};
+    ghost use Rattle.mol_top.specs.declared.fault.StoreFault.TheVariants.{OutOfMemory as Wants};
+
+    ghost from_gives = { λ _ fault. fault ≡ Wants };
+
+    fn from(_: AllocFailed<T>) -> StoreFault {
+        StoreFault::OutOfMemory
+    }
+}
+
+impl From<OutOfMemory> for FormatFault {
+    ghost use Rattle.std.specs.Prelude.{◌≡◌};
+    ghost use Rattle.mol_top.specs.declared.fault.FormatFault.TheVariants.{OutOfMemory as Wants};
+
+    ghost from_gives = { λ _ fault. fault ≡ Wants };
+
+    fn from(_: OutOfMemory) -> FormatFault {
+        FormatFault::OutOfMemory
+    }
+}
+
+impl<T: Drop> From<AllocFailed<T>> for FormatFault {
+    ghost use Rattle.std.specs.Prelude.{◌≡◌};
+    ghost use Rattle.mol_top.specs.declared.fault.FormatFault.TheVariants.{OutOfMemory as Wants};
+
+    ghost from_gives = { λ _ fault. fault ≡ Wants };
+
+    fn from(_: AllocFailed<T>) -> FormatFault {
+        FormatFault::OutOfMemory
+    }
+}
+
+impl From<LimitFault> for Status {
+    ghost use Rattle.std.specs.Prelude.{◌≡◌};
+    ghost use Rattle.mol_top.specs.Answers.{limit_status};
+
+    ghost from_gives = { λ fault status. status ≡ limit_status fault };
+
+    fn from(fault: LimitFault) -> Status {
+        Status::Limit(fault.which, fault.number)
+    }
+}
+
+impl From<StoreFault> for Status {
+    ghost use Rattle.std.specs.Prelude.{◌≡◌};
+    ghost use Rattle.mol_top.specs.Answers.{store_status};
+
+    ghost from_gives = { λ fault status. status ≡ store_status fault };
+
+    fn from(fault: StoreFault) -> Status {
+        match fault {
+            StoreFault::ReadFailed(path) => Status::ReadFailed(path),
+            StoreFault::Missing(path) => Status::Missing(path),
+            StoreFault::OutInUse(path) => Status::OutInUse(path),
+            StoreFault::Limit(limit) => Status::from(limit),
+            StoreFault::OutOfMemory => Status::OutOfMemory,
+        }
+    }
+}
+
+impl From<FormatFault> for Status {
+    ghost use Rattle.std.specs.Prelude.{◌≡◌};
+    ghost use Rattle.mol_top.specs.Answers.{format_status};
+
+    ghost from_gives = { λ fault status. status ≡ format_status fault };
+
+    fn from(fault: FormatFault) -> Status {
+        match fault {
+            FormatFault::Base(fault) => Status::BaseRefused(fault),
+            FormatFault::OutOfMemory => Status::OutOfMemory,
+        }
+    }
+}
