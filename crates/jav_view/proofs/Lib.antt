@@ -1,0 +1,16 @@
+pub mod Lists
+pub mod Places
+pub mod Ways
+pub mod NearestMembers
+pub mod ReadTypes
+pub mod ReadMembers
+pub mod ReadVariables
+pub mod ReadLeftmost
+pub mod ReadOnValues
+pub mod NamesAnswered
+pub mod UnitsOrdered
+pub mod CutNames
+pub mod UnitsViewed
+pub mod ExampleFiles
+pub mod ExampleReadings
+pub mod ExampleRules

@@ -1,0 +1,86 @@
+-- That each rule has exactly one answer, which is what its function finds.
+use Rattle.std.specs.Prelude.{◌≡◌, ◌⊎◌, ℕ, List, All}
+use Rattle.jav_tree.specs.declared.types.TypeName.{TypeName}
+use Rattle.jav_tree.specs.declared.types.TypeName.TheVariants as types
+use Rattle.jav_tree.specs.declared.unit.Unit.{Unit as Source}
+use Rattle.jav_view.specs.DottedNames.{Name, Names, joined, cut, HasNoDot}
+use Rattle.jav_view.specs.Leftmost.{ReadsLeftmost}
+use Rattle.jav_view.specs.LookUps.{simple_type, type_named, field_from, method_from, super_method, constructor_from, super_constructor, variable, leftmost, field_on, method_on, static_field, static_method_of}
+use Rattle.jav_view.specs.Members.{ReadsField, ReadsMethod, ReadsSuperMethod, ReadsConstructor, ReadsSuperConstructor}
+use Rattle.jav_view.specs.OnValues.{StaticType, ReadsFieldOn, ReadsMethodOn, ReadsStaticField, ReadsStaticMethod}
+use Rattle.jav_view.specs.Types.{Header, TypeReading, ReadsSimple, ReadsType}
+use Rattle.jav_view.specs.UnitViews.{classes_of, type_of, type_in, view_of}
+use Rattle.jav_view.specs.Variables.{Place, ReadsVariable}
+use Rattle.jav_view.specs.Views.{primitive_type, void_type, array_type, Classes, AreOrdered, View, IsOrdered, Found, found, outside, not_found}
+
+-- A rule holds of this answer and of no other.
+pub record IsTheAnswer {A : Type 0} (Reads : A → Type 0) (answer : A) : Type 0 where
+  pub holds : Reads answer
+  pub only : (reading : A) → Reads reading → reading ≡ answer
+
+-- Each rule on the names of types, where the keys of classes are of this type.
+pub record TypesAnswered (C : Type 0) : Type 0 where
+  pub simple : (classes : Classes C) (header : Header C) (name : Name) → AreOrdered classes
+      → IsTheAnswer (ReadsSimple classes header name) (simple_type classes header name)
+  pub types : (classes : Classes C) (header : Header C) (first : Name) (rest : Names) → AreOrdered classes
+      → IsTheAnswer (ReadsType classes header first rest) (type_named classes header first rest)
+
+-- Each rule on members and variables, where the keys of classes and members are of these types.
+pub record NamesAnswered (C M : Type 0) : Type 0 where
+  pub fields : (view : View C M) (class : C) (name : Name) → IsOrdered view
+      → IsTheAnswer (ReadsField view class name) (field_from view class name)
+  pub methods : (view : View C M) (class : C) (name : Name) (arity : ℕ) → IsOrdered view
+      → IsTheAnswer (ReadsMethod view class name arity) (method_from view class name arity)
+  pub super_methods : (view : View C M) (class : C) (name : Name) (arity : ℕ) → IsOrdered view
+      → IsTheAnswer (ReadsSuperMethod view class name arity) (super_method view class name arity)
+  pub constructors : (view : View C M) (class : C) (arity : ℕ) → IsOrdered view
+      → IsTheAnswer (ReadsConstructor view class arity) (constructor_from view class arity)
+  pub super_constructors : (view : View C M) (class : C) (arity : ℕ) → IsOrdered view
+      → IsTheAnswer (ReadsSuperConstructor view class arity) (super_constructor view class arity)
+  pub variables : (view : View C M) (place : Place C) (name : Name) → IsOrdered view
+      → IsTheAnswer (ReadsVariable view place name) (variable view place name)
+  pub leftmost : (view : View C M) (place : Place C) (first : Name) (rest : Names) → IsOrdered view
+      → IsTheAnswer (ReadsLeftmost view place first rest) (leftmost view place first rest)
+  pub fields_on : (view : View C M) (name : Name) (type : StaticType C) → IsOrdered view
+      → IsTheAnswer (ReadsFieldOn view name type) (field_on view name type)
+  pub methods_on : (view : View C M) (name : Name) (arity : ℕ) (type : StaticType C) → IsOrdered view
+      → IsTheAnswer (ReadsMethodOn view name arity type) (method_on view name arity type)
+  pub static_fields : (view : View C M) (class : C) (name : Name) → IsOrdered view
+      → IsTheAnswer (ReadsStaticField view class name) (static_field view class name)
+  pub static_methods : (view : View C M) (class : C) (name : Name) (arity : ℕ) → IsOrdered view
+      → IsTheAnswer (ReadsStaticMethod view class name arity) (static_method_of view class name arity)
+
+-- Exactly one of three: something is found, and nothing else; or it is outside; or there is no such thing.
+pub record IsDecided {A : Type 0} (Reads : Found A → Type 0) : Type 0 where
+  pub some : ((x : A) × Reads (found x)) ⊎ (Reads outside ⊎ Reads not_found)
+  pub unique : (x y : A) → Reads (found x) → Reads (found y) → x ≡ y
+  pub found_not_outside : (x : A) → Reads (found x) → ¬ Reads outside
+  pub found_not_missing : (x : A) → Reads (found x) → ¬ Reads not_found
+  pub outside_not_missing : Reads outside → ¬ Reads not_found
+
+pub record NamesDecided (C M : Type 0) : Type 0 where
+  pub fields : (view : View C M) (class : C) (name : Name) → IsOrdered view → IsDecided (ReadsField view class name)
+  pub methods : (view : View C M) (class : C) (name : Name) (arity : ℕ) → IsOrdered view → IsDecided (ReadsMethod view class name arity)
+  pub super_methods : (view : View C M) (class : C) (name : Name) (arity : ℕ) → IsOrdered view
+      → IsDecided (ReadsSuperMethod view class name arity)
+  pub constructors : (view : View C M) (class : C) (arity : ℕ) → IsOrdered view → IsDecided (ReadsConstructor view class arity)
+  pub super_constructors : (view : View C M) (class : C) (arity : ℕ) → IsOrdered view → IsDecided (ReadsSuperConstructor view class arity)
+  pub variables : (view : View C M) (place : Place C) (name : Name) → IsOrdered view → IsDecided (ReadsVariable view place name)
+
+-- Names with dots: what a text is cut into makes up the text, and names without dots that are joined are what their text is cut into.
+pub record NamesCut : Type 0 where
+  pub whole : (text : Name) → joined (cut text).first (cut text).rest ≡ text
+  pub parts : (first : Name) (rest : Names) → HasNoDot first → All HasNoDot rest
+      → cut (joined first rest) ≡ record { first = first; rest = rest }
+
+-- The view of source files ascends by its keys. A type in it is what the type as written reads as, part by part.
+pub record UnitsViewed : Type 0 where
+  pub ordered : (units : List Source) → IsOrdered (view_of units)
+  pub primitive_types : (units : List Source) (header : Header ℕ) (text : Name)
+      → type_in (classes_of units) header (types.Prim text) ≡ primitive_type text
+  pub named_types : (units : List Source) (header : Header ℕ) (text : Name) (read : TypeReading ℕ)
+      → ReadsType (classes_of units) header (cut text).first (cut text).rest read
+      → type_in (classes_of units) header (types.Named text) ≡ type_of read
+  pub array_types : (units : List Source) (header : Header ℕ) (item : TypeName)
+      → type_in (classes_of units) header (types.ArrayOf item) ≡ array_type (type_in (classes_of units) header item)
+  pub void_types : (units : List Source) (header : Header ℕ) → type_in (classes_of units) header types.Void ≡ void_type

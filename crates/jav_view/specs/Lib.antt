@@ -1,0 +1,12 @@
+pub mod Ancestors
+pub mod Choices
+pub mod DottedNames
+pub mod Leftmost
+pub mod Laws
+pub mod LookUps
+pub mod Members
+pub mod OnValues
+pub mod Types
+pub mod UnitViews
+pub mod Variables
+pub mod Views

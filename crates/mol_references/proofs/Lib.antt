@@ -1,0 +1,3 @@
+pub mod NamedExpressions
+pub mod NamedBlocks
+pub mod ExampleReferences
