@@ -13,16 +13,18 @@ use Rattle.jav_view.specs.DottedNames.{Name, Names}
 use Rattle.jav_view.specs.Ancestors.{Way}
 use Rattle.jav_view.specs.Laws.{IsTheAnswer}
 use Rattle.jav_view.specs.Leftmost.{Leftmost, ReadsLeftmost}
-use Rattle.jav_view.specs.LookUps.{type_named, variable, leftmost, method_from, static_method_of, constructor_from, super_constructor, way}
-use Rattle.jav_view.specs.Members.{ReadsMethod, ReadsConstructor, ReadsSuperConstructor}
-use Rattle.jav_view.specs.OnValues.{ReadsStaticMethod}
+use Rattle.jav_view.specs.LookUps.{type_named, field_from, method_from, super_method, constructor_from, super_constructor, variable, leftmost, method_on, method_through, way}
+use Rattle.jav_view.specs.Members.{ReadsField, ReadsMethod, ReadsSuperMethod, Constructor, ReadsConstructor, ReadsSuperConstructor}
+use Rattle.jav_view.specs.OnValues.{StaticType, OnValue, ReadsMethodOn, ReadsStaticMethod}
+use Rattle.jav_view.specs.StaticTypes.{ReadsCommon, common}
 use Rattle.jav_view.specs.Types.{Header, TypeReading, ReadsType}
 use Rattle.jav_view.specs.UnitViews.{MemberKey, numbered, classes_of, superclass_of, view_of}
 use Rattle.jav_view.specs.Variables.{Place, Variable, ReadsVariable}
-use Rattle.jav_view.specs.Views.{ViewType, ViewDeclaration, View, Found}
+use Rattle.jav_view.specs.Views.{ViewType, ViewField, ViewDeclaration, View, Found}
+use Rattle.jav_view.proofs.CommonTypes.{common-answered}
 use Rattle.jav_view.proofs.ReadLeftmost.{leftmost-answered}
-use Rattle.jav_view.proofs.ReadMembers.{method-answered, constructor-answered, super_constructor-answered}
-use Rattle.jav_view.proofs.ReadOnValues.{static_method-answered}
+use Rattle.jav_view.proofs.ReadMembers.{field-answered, method-answered, super_method-answered, constructor-answered, super_constructor-answered}
+use Rattle.jav_view.proofs.ReadOnValues.{method_on-answered, static_method-answered}
 use Rattle.jav_view.proofs.ReadTypes.{type-answered}
 use Rattle.jav_view.proofs.ReadVariables.{variable-answered}
 use Rattle.jav_view.proofs.UnitsOrdered.{classes_of-ordered, view_of_ordered}
@@ -67,7 +69,7 @@ view-seen units superclasses is = λ i. record (view_of units) { superclass = λ
 -- ---- readings
 
 -- What the functions find, the rules read.
-reads : {A : Type 0} {Reads : A → Type 0} {answer read : A} → IsTheAnswer Reads answer → answer ≡ read → Reads read
+pub reads : {A : Type 0} {Reads : A → Type 0} {answer read : A} → IsTheAnswer Reads answer → answer ≡ read → Reads read
 reads {A} {Reads} is same = subst Reads same is.holds
 
 -- over files whose view is known as a value
@@ -82,24 +84,44 @@ module _ (units : List Source) (view : View ℕ MemberKey) (seen : view_of units
   leftmost_read place first rest read is =
       reads (leftmost-answered (view_of units) (view_of_ordered units) place first rest) (ap (λ v. leftmost v place first rest) seen ∙ is)
 
-  pub method_read : (class : ℕ) (name : Name) (arity : ℕ) (read : Found (ViewDeclaration ℕ MemberKey)) → method_from view class name arity ≡ read
-      → ReadsMethod (view_of units) class name arity read
+  pub field_read : (class : ℕ) (name : Name) (read : Found (ViewField ℕ MemberKey)) → field_from view class name ≡ read
+      → ReadsField (view_of units) class name read
+  field_read class name read is =
+      reads (field-answered (view_of units) (view_of_ordered units) class name) (ap (λ v. field_from v class name) seen ∙ is)
+
+  pub super_method_read : (class : ℕ) (name : Name) (arity : ℕ) (read : Found (ViewDeclaration ℕ MemberKey))
+      → super_method view class name arity ≡ read → ReadsSuperMethod (view_of units) class name arity read
+  super_method_read class name arity read is =
+      reads (super_method-answered (view_of units) (view_of_ordered units) class name arity)
+      (ap (λ v. super_method v class name arity) seen ∙ is)
+
+  pub method_on_read : (name : Name) (arity : ℕ) (type : StaticType ℕ) (read : OnValue (ViewDeclaration ℕ MemberKey))
+      → method_on view name arity type ≡ read → ReadsMethodOn (view_of units) name arity type read
+  method_on_read name arity type read is =
+      reads (method_on-answered (view_of units) (view_of_ordered units) name arity type) (ap (λ v. method_on v name arity type) seen ∙ is)
+
+  pub choice_read : (first second read : StaticType ℕ) → common view first second ≡ read → ReadsCommon (view_of units) first second read
+  choice_read first second read is =
+      reads (common-answered (view_of units) (classes_of-ordered units) first second) (ap (λ v. common v first second) seen ∙ is)
+
+  pub method_read : (class : ℕ) (name : Name) (arity : ℕ) (read : Found (ViewDeclaration ℕ MemberKey))
+      → method_from view class name arity ≡ read → ReadsMethod (view_of units) class name arity read
   method_read class name arity read is =
       reads (method-answered (view_of units) (view_of_ordered units) class name arity) (ap (λ v. method_from v class name arity) seen ∙ is)
 
   pub static_method_read : (class : ℕ) (name : Name) (arity : ℕ) (read : Option (ViewDeclaration ℕ MemberKey))
-      → static_method_of view class name arity ≡ read
+      → method_through view class name arity ≡ read
       → ReadsStaticMethod (view_of units) class name arity read
   static_method_read class name arity read is =
       reads (static_method-answered (view_of units) (view_of_ordered units) class name arity)
-      (ap (λ v. static_method_of v class name arity) seen ∙ is)
+      (ap (λ v. method_through v class name arity) seen ∙ is)
 
-  pub constructor_read : (class arity : ℕ) (read : Found (Option (ViewDeclaration ℕ MemberKey))) → constructor_from view class arity ≡ read
+  pub constructor_read : (class arity : ℕ) (read : Found (Constructor ℕ MemberKey)) → constructor_from view class arity ≡ read
       → ReadsConstructor (view_of units) class arity read
   constructor_read class arity read is =
       reads (constructor-answered (view_of units) (view_of_ordered units) class arity) (ap (λ v. constructor_from v class arity) seen ∙ is)
 
-  pub super_constructor_read : (class arity : ℕ) (read : Found (Option (ViewDeclaration ℕ MemberKey))) → super_constructor view class arity ≡ read
+  pub super_constructor_read : (class arity : ℕ) (read : Found (Constructor ℕ MemberKey)) → super_constructor view class arity ≡ read
       → ReadsSuperConstructor (view_of units) class arity read
   super_constructor_read class arity read is =
       reads (super_constructor-answered (view_of units) (view_of_ordered units) class arity) (ap (λ v. super_constructor v class arity) seen ∙ is)

@@ -8,13 +8,14 @@ use Rattle.jav_view.specs.DottedNames.{Names}
 use Rattle.jav_view.specs.Ancestors.{Way}
 use Rattle.jav_view.specs.Leftmost.{leftmost_variable, leftmost_class, leftmost_outside, ReadsLeftmost}
 use Rattle.jav_view.specs.Members.{ReadsMethod}
-use Rattle.jav_view.specs.OnValues.{primitive_value, no_members, ReadsOn, ReadsFieldOn, ReadsStaticMethod}
+use Rattle.jav_view.specs.OnValues.{primitive_value, has_no_members, ReadsOn, ReadsFieldOn, ReadsStaticMethod}
+use Rattle.jav_view.specs.TypeTexts.{type_in}
 use Rattle.jav_view.specs.Types.{class_read, written, ReadsType}
-use Rattle.jav_view.specs.UnitViews.{MemberKey, classes_of, header_of, type_in, view_of, place_in}
+use Rattle.jav_view.specs.UnitViews.{MemberKey, classes_of, header_of, view_of, place_in}
 use Rattle.jav_view.specs.Variables.{Place, local_variable, parameter_variable, field_variable, ReadsVariable}
 use Rattle.jav_view.specs.Views.{ViewType, class_type, ViewField, static_method, View, found, not_found}
 use Rattle.jav_view.proofs.ExampleFiles.{int, named, param, field, method, file, with_superclasses, view-seen, variable_read, leftmost_read, method_read, static_method_read, way_read, type_read}
-use Rattle.jav_view.proofs.UnitsViewed.{type_in-Named}
+use Rattle.jav_view.proofs.WrittenTypes.{type_in-Named}
 
 -- ---- the files
 
@@ -23,39 +24,39 @@ cart_named name = file "shop" [] name None
     (field ("private" ∷ []) int "count" ∷ method false int "total" [] ∷ method true int "tax" (param int "amount" ∷ [])
     ∷ method false types.Void "add" (param int "amount" ∷ param int "times" ∷ []) ∷ [])
 
-abbrev cart : Source
+abbrev pub cart : Source
 cart = cart_named "Cart"
 
-abbrev desk : Source
+abbrev pub desk : Source
 desk = file "shop" [] "Desk" None (field ("protected" ∷ []) int "count" ∷ method false (named "String") "label" [] ∷ [])
 
-abbrev till_with : List Member → Source
+abbrev pub till_with : List Member → Source
 till_with more = file "shop" [] "Till" (Some (named "Desk")) (method false int "pay" (param (named "Cart") "cart" ∷ []) ∷ more)
 
-abbrev till : Source
+abbrev pub till : Source
 till = till_with []
 
-abbrev shop : List Source
+abbrev pub shop : List Source
 shop = cart ∷ desk ∷ till ∷ []
 
 -- of three files the last extends the class of the second
-abbrev last_extends : List Source → View ℕ MemberKey
+abbrev pub last_extends : List Source → View ℕ MemberKey
 last_extends units = with_superclasses units (None ∷ None ∷ Some (class_type 1) ∷ [])
 
-abbrev third_extends : ViewType ℕ → List (Option (ViewType ℕ))
+abbrev pub third_extends : ViewType ℕ → List (Option (ViewType ℕ))
 third_extends type = None ∷ None ∷ Some type ∷ []
 
-shop-seen : view_of shop ≡ last_extends shop
+pub shop-seen : view_of shop ≡ last_extends shop
 shop-seen = view-seen shop (third_extends (class_type 1)) (ap third_extends (type_in-Named (classes_of shop) (header_of (2, till)) (codes "Desk")))
 
 -- a field `int count` of a file
-abbrev count_in : List Source → ℕ × Source → ℕ → ViewField ℕ MemberKey
+abbrev pub count_in : List Source → ℕ × Source → ℕ → ViewField ℕ MemberKey
 count_in units unit number = record {
   key = record { unit = unit.0; member = number };
   owner = unit.0;
   name = codes "count";
   is_static = false;
-  ty = type_in (classes_of units) (header_of unit) int;
+  type = type_in (classes_of units) (header_of unit) int;
 }
 
 -- in `Till.pay`
@@ -197,18 +198,18 @@ a_param : ReadsLeftmost (view_of two_of_a_name) (in_f_in_full (codes "a" ∷ [])
     (leftmost_variable (parameter_variable 0))
 a_param = leftmost_read two_of_a_name (none_extends two_of_a_name) two-seen (in_f_in_full (codes "a" ∷ [])) (codes "a") (codes "X" ∷ []) _ refl
 
-x_of_int : ReadsFieldOn (view_of two_of_a_name) (codes "X") primitive_value no_members
+x_of_int : ReadsFieldOn (view_of two_of_a_name) (codes "X") primitive_value has_no_members
 x_of_int = ReadsOn.of_primitive
 
 -- ---- superclasses in a circle: `k.A extends B`, `k.B extends A`
 
-abbrev circle : List Source
+abbrev pub circle : List Source
 circle = file "k" [] "A" (Some (named "B")) [] ∷ file "k" [] "B" (Some (named "A")) [] ∷ []
 
-abbrev two_extend : ViewType ℕ → ViewType ℕ → List (Option (ViewType ℕ))
+abbrev pub two_extend : ViewType ℕ → ViewType ℕ → List (Option (ViewType ℕ))
 two_extend first second = Some first ∷ Some second ∷ []
 
-circle-seen : view_of circle ≡ with_superclasses circle (two_extend (class_type 1) (class_type 0))
+pub circle-seen : view_of circle ≡ with_superclasses circle (two_extend (class_type 1) (class_type 0))
 circle-seen = view-seen circle (two_extend (class_type 1) (class_type 0)) (λ i. two_extend (a_extends i) (b_extends i)) where
   a_extends : type_in (classes_of circle) (header_of (0, file "k" [] "A" (Some (named "B")) [])) (named "B") ≡ class_type 1
   a_extends = type_in-Named (classes_of circle) (header_of (0, file "k" [] "A" (Some (named "B")) [])) (codes "B")

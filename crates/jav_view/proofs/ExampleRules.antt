@@ -4,14 +4,14 @@ use Rattle.jav_tree.specs.declared.unit.Member.TheVariants as member
 use Rattle.jav_tree.specs.declared.unit.Unit.{Unit as Source}
 use Rattle.jav_tree.specs.Blocks.{block_of}
 use Rattle.jav_view.specs.Leftmost.{leftmost_variable, leftmost_class, leftmost_import, leftmost_outside, ReadsLeftmost}
-use Rattle.jav_view.specs.Members.{ReadsMethod, ReadsConstructor, ReadsSuperConstructor}
-use Rattle.jav_view.specs.OnValues.{array_value, outside_member, no_member, ReadsOn, ReadsFieldOn, ReadsMethodOn}
+use Rattle.jav_view.specs.Members.{ReadsMethod, default_constructor, ReadsConstructor, ReadsSuperConstructor}
+use Rattle.jav_view.specs.OnValues.{array_value, outside_member, missing_member, ReadsOn, ReadsFieldOn, ReadsMethodOn}
 use Rattle.jav_view.specs.Types.{Header, class_read, imported, written, no_type, ReadsType}
 use Rattle.jav_view.specs.UnitViews.{MemberKey, classes_of, header_of, view_of, place_in}
 use Rattle.jav_view.specs.Variables.{Place, local_variable, parameter_variable, ReadsVariable}
 use Rattle.jav_view.specs.Views.{primitive_type, class_type, outside_type, View, found, outside, not_found}
 use Rattle.jav_view.proofs.ExampleFiles.{int, named, param, file, with_superclasses, view-seen, variable_read, leftmost_read, method_read, constructor_read, super_constructor_read, type_read}
-use Rattle.jav_view.proofs.UnitsViewed.{type_in-Named}
+use Rattle.jav_view.proofs.WrittenTypes.{type_in-Named}
 
 -- ---- types
 
@@ -50,6 +50,27 @@ full_name_of_a_class = type_read users in_user (codes "q") (codes "E" ∷ []) _ 
 as_written : ReadsType (classes_of users) in_user (codes "java") (codes "util" ∷ codes "List" ∷ []) (written (codes "java.util.List"))
 as_written = type_read users in_user (codes "java") (codes "util" ∷ codes "List" ∷ []) _ refl
 
+-- the file's own class goes before a class of its package, of the same name here and of lesser key
+abbrev twin : Source
+twin = file "p" [] "U" None []
+
+own_class_first : ReadsType (classes_of (twin ∷ twin ∷ [])) (header_of (1, twin)) (codes "U") [] (class_read 1)
+own_class_first = type_read (twin ∷ twin ∷ []) (header_of (1, twin)) (codes "U") [] _ refl
+
+-- of two imports of one simple name the first counts
+abbrev two_imports : Header ℕ
+two_imports = header_of (0, file "p" ("a.D" ∷ "q.D" ∷ []) "V" None [])
+
+first_import : ReadsType (classes_of users) two_imports (codes "D") [] (imported (codes "a.D") [])
+first_import = type_read users two_imports (codes "D") [] _ refl
+
+-- an import of one part is one of that name, and is not looked for in the package
+abbrev one_part : Header ℕ
+one_part = header_of (2, file "p" ("Date" ∷ []) "U" None [])
+
+import_of_one_part : ReadsType (classes_of users) one_part (codes "Date") (codes "Entry" ∷ []) (imported (codes "Date") (codes "Entry"))
+import_of_one_part = type_read users one_part (codes "Date") (codes "Entry" ∷ []) _ refl
+
 -- ---- variables
 
 abbrev none_extends : View ℕ MemberKey
@@ -86,6 +107,18 @@ import_before_dot = leftmost_read users none_extends users-seen with_locals (cod
 local_before_full_name : ReadsLeftmost (view_of users) (place_in (2, user) (codes "q" ∷ []) []) (codes "q") (codes "E" ∷ [])
     (leftmost_variable (local_variable 0))
 local_before_full_name = leftmost_read users none_extends users-seen (place_in (2, user) (codes "q" ∷ []) []) (codes "q") (codes "E" ∷ []) _ refl
+
+-- of two classes whose full names the names begin with, the one of the shorter: `a.b` and `a.b.c`
+abbrev one_in_the_other : List Source
+one_in_the_other = file "a.b" [] "c" None [] ∷ file "a" [] "b" None [] ∷ []
+
+one_in_the_other-seen : view_of one_in_the_other ≡ with_superclasses one_in_the_other (None ∷ None ∷ [])
+one_in_the_other-seen = view-seen one_in_the_other (None ∷ None ∷ []) refl
+
+shorter_name : ReadsLeftmost (view_of one_in_the_other) (place_in (7, file "p" [] "U" None []) [] []) (codes "a")
+    (codes "b" ∷ codes "c" ∷ codes "d" ∷ []) (leftmost_class 1 2)
+shorter_name = leftmost_read one_in_the_other (with_superclasses one_in_the_other (None ∷ None ∷ [])) one_in_the_other-seen
+    (place_in (7, file "p" [] "U" None []) [] []) (codes "a") (codes "b" ∷ codes "c" ∷ codes "d" ∷ []) _ refl
 
 -- ---- classes that extend an outside one: `p.E extends Base` with a constructor `E(int)`, and `p.F extends E`
 
@@ -127,8 +160,8 @@ no_method = method_read users none_extends users-seen 2 (codes "equals") 2 _ ref
 -- ---- constructors
 
 -- by default there is one without parameters, and none besides
-default_constructor : ReadsConstructor (view_of outsiders) 1 0 (found None)
-default_constructor = constructor_read outsiders ends_outside outsiders-seen 1 0 _ refl
+default_of_further : ReadsConstructor (view_of outsiders) 1 0 (found (default_constructor 1))
+default_of_further = constructor_read outsiders ends_outside outsiders-seen 1 0 _ refl
 
 no_default : ReadsConstructor (view_of outsiders) 0 0 not_found
 no_default = constructor_read outsiders ends_outside outsiders-seen 0 0 _ refl
@@ -145,7 +178,7 @@ no_super = super_constructor_read users none_extends users-seen 2 0 _ refl
 length_of_array : ReadsFieldOn (view_of users) (codes "length") (array_value (primitive_type (codes "int"))) outside_member
 length_of_array = ReadsOn.has_array refl
 
-no_field_of_array : ReadsFieldOn (view_of users) (codes "size") (array_value (primitive_type (codes "int"))) no_member
+no_field_of_array : ReadsFieldOn (view_of users) (codes "size") (array_value (primitive_type (codes "int"))) missing_member
 no_field_of_array = ReadsOn.has_no_array refl
 
 clone_of_array : ReadsMethodOn (view_of users) (codes "clone") 0 (array_value (primitive_type (codes "int"))) outside_member

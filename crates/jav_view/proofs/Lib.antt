@@ -9,8 +9,15 @@ pub mod ReadLeftmost
 pub mod ReadOnValues
 pub mod NamesAnswered
 pub mod UnitsOrdered
+pub mod WrittenTypes
+pub mod AncestorsFound
+pub mod EqualTypes
+pub mod CommonTypes
+pub mod FoundNames
 pub mod CutNames
 pub mod UnitsViewed
 pub mod ExampleFiles
 pub mod ExampleReadings
 pub mod ExampleRules
+pub mod ExampleMembers
+pub mod ExampleTypes

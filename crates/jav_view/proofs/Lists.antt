@@ -1,5 +1,5 @@
 -- What stands in a list, the first that passes a test, and the one of least key in a list that ascends.
-use Rattle.std.proofs.Common.{◌≡◌, ◌≢◌, ◌⊎◌, inl, inr, ℕ, zero, suc, ◌<◌, Bool, true, false, cond, ◌||◌, List, [], ◌∷◌, length, get_or, Option, Some, None, All, Contains, find, refl, sym, ◌∙◌, ap, subst, arith, true≢false, Ordering, Less, Equal, Greater}
+use Rattle.std.proofs.Common.{◌≡◌, ◌≢◌, ◌⊎◌, inl, inr, ℕ, zero, suc, ◌<◌, Bool, true, false, cond, ◌||◌, List, [], ◌∷◌, map, length, get_or, Option, Some, None, All, Contains, find, refl, sym, ◌∙◌, ap, subst, arith, true≢false, Ordering, Less, Equal, Greater}
 use Rattle.std.specs.Bool.{Decides}
 use Rattle.std.specs.List.{list_any}
 use Rattle.std.specs.List.Sorted.{IsStrictlySortedBy}
@@ -26,6 +26,13 @@ stands_where {X} x y xs h = by_place h.0 h.1 h.2 where
 
 pub stands_nowhere : {X : Type 0} (y : X) → ¬ Contains [] y
 stands_nowhere y h = omega (arith, h.1)
+
+pub stands-mapped : {X Y : Type 0} (make : X → Y) (xs : List X) (x : X) → Contains xs x → Contains (map make xs) (make x)
+stands-mapped make [] x of-x = absurd (stands_nowhere x of-x)
+stands-mapped {X} {Y} make (y ∷ xs) x of-x = by_place (stands_where y x xs of-x) (stands-mapped make xs x) where
+  by_place : (y ≡ x) ⊎ Contains xs x → (Contains xs x → Contains (map make xs) (make x)) → Contains (map make (y ∷ xs)) (make x)
+  by_place (inl same) more = subst (λ z. Contains (make y ∷ map make xs) (make z)) same (stands_first (make y) (map make xs))
+  by_place (inr later) more = stands_later (make y) (make x) (map make xs) (more later)
 
 -- P holds of all where it holds of each that stands there
 pub All-from_each : {X : Type 0} (P : X → Type 0) (xs : List X) → ((x : X) → Contains xs x → P x) → All P xs

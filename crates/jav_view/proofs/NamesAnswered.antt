@@ -4,14 +4,20 @@ use Rattle.jav_view.specs.Laws.{IsTheAnswer, TypesAnswered, NamesAnswered, IsDec
 use Rattle.jav_view.specs.Views.{Found, found, outside, not_found}
 use Rattle.jav_view.proofs.ReadLeftmost.{leftmost-answered}
 use Rattle.jav_view.proofs.ReadMembers.{field-answered, method-answered, super_method-answered, constructor-answered, super_constructor-answered}
-use Rattle.jav_view.proofs.ReadOnValues.{field_on-answered, method_on-answered, static_field-answered, static_method-answered}
+use Rattle.jav_view.proofs.ReadOnValues.{field_on-answered, method_on-answered, index_on-answered, static_field-answered, static_method-answered}
+use Rattle.jav_view.proofs.CommonTypes.{common-answered}
 use Rattle.jav_view.proofs.ReadTypes.{simple-answered, type-answered}
 use Rattle.jav_view.proofs.ReadVariables.{variable-answered}
+use Rattle.jav_view.proofs.WrittenTypes.{type_in-Prim, type_in-named, type_in-ArrayOf, type_in-Void}
 
 pub types_answered : (C : Type 0) → TypesAnswered C
 types_answered C = record {
   simple = λ classes header name ordered. simple-answered classes ordered header name;
   types = λ classes header first rest ordered. type-answered classes ordered header first rest;
+  primitive_types = type_in-Prim;
+  named_types = type_in-named;
+  array_types = type_in-ArrayOf;
+  void_types = type_in-Void;
 }
 
 pub names_answered : (C M : Type 0) → NamesAnswered C M
@@ -25,8 +31,10 @@ names_answered C M = record {
   leftmost = λ view place first rest ordered. leftmost-answered view ordered place first rest;
   fields_on = λ view name type ordered. field_on-answered view ordered name type;
   methods_on = λ view name arity type ordered. method_on-answered view ordered name arity type;
+  indexes_on = λ type. index_on-answered type;
   static_fields = λ view class name ordered. static_field-answered view ordered class name;
   static_methods = λ view class name arity ordered. static_method-answered view ordered class name arity;
+  choices = λ view first second ordered. common-answered view ordered.classes first second;
 }
 
 -- one answer is one of three
@@ -43,9 +51,9 @@ module _ {A : Type 0} {Reads : Found A → Type 0} {answer : Found A} (is : IsTh
   decided = record {
     some = some answer is.holds;
     unique = λ x y of-x of-y. let both : found x ≡ found y = same (found x) (found y) of-x of-y in cc;
-    found_not_outside = λ x of-x out. absurd (let both : found x ≡ outside = same (found x) outside of-x out in cc);
-    found_not_missing = λ x of-x missing. absurd (let both : found x ≡ not_found = same (found x) not_found of-x missing in cc);
-    outside_not_missing = λ out missing. absurd (let both : outside ≡ not_found = same outside not_found out missing in cc);
+    never_found_and_outside = λ x of-x out. absurd (let both : found x ≡ outside = same (found x) outside of-x out in cc);
+    never_found_and_not_found = λ x of-x missing. absurd (let both : found x ≡ not_found = same (found x) not_found of-x missing in cc);
+    never_outside_and_not_found = λ out missing. absurd (let both : outside ≡ not_found = same outside not_found out missing in cc);
   }
 
 pub names_decided : (C M : Type 0) → NamesDecided C M

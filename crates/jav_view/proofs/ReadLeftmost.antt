@@ -164,10 +164,10 @@ module _ {C M : Type 0} (view : View C M) (ordered : IsOrdered view) (place : Pl
       ∙ ap (leftmost_type view.classes first rest) (sym (simple-is read r))
 
   only : (reading : Leftmost C M) → ReadsLeftmost view place first rest reading → reading ≡ leftmost view place first rest
-  only reading (ReadsLeftmost.by_variable {x = x} reads) = rw (sym ((variable-answered view ordered place first).only (found x) reads)) refl
+  only reading (ReadsLeftmost.by_variable {variable = x} reads) = rw (sym ((variable-answered view ordered place first).only (found x) reads)) refl
   only reading (ReadsLeftmost.by_class none r) = sym (by_type _ none r)
   only reading (ReadsLeftmost.by_import none r) = sym (by_type _ none r)
-  only reading (ReadsLeftmost.by_full_name {further = further} {c = c} none r fewest_names) =
+  only reading (ReadsLeftmost.by_full_name {further = further} {class = c} none r fewest_names) =
       sym (by_type _ none r ∙ ap class_or_outside (is-fewest view.classes ordered.classes first rest further c fewest_names))
   only reading (ReadsLeftmost.as_written none r missing) =
       sym (by_type _ none r ∙ ap class_or_outside (none-fewest view.classes ordered.classes first rest missing))

@@ -11,7 +11,7 @@ use Rattle.jav_view.specs.Choices.{IsLeast, HoldsOfNone}
 use Rattle.jav_view.specs.DottedNames.{Name}
 use Rattle.jav_view.specs.Laws.{IsTheAnswer}
 use Rattle.jav_view.specs.LookUps.{class_above, is_outside, way, ends_outside, nearest, found_or, field_from, is_constructor, is_method, method_from, found_above, super_method, declares_constructor, constructor_or, constructor_from, super_constructor}
-use Rattle.jav_view.specs.Members.{IsNearestField, HasNoField, ReadsField, is_object_method, IsMethod, IsNearestMethod, HasNoMethod, ReadsMethod, ReadsSuperMethod, IsConstructor, IsConstructorOf, IsByDefault, ReadsConstructor, ReadsSuperConstructor}
+use Rattle.jav_view.specs.Members.{IsNearestField, HasNoField, ReadsField, is_object_method, IsMethod, IsNearestMethod, HasNoMethod, ReadsMethod, ReadsSuperMethod, IsConstructor, IsConstructorOf, IsByDefault, Constructor, ReadsConstructor, ReadsSuperConstructor}
 use Rattle.jav_view.specs.Views.{ViewField, DeclarationKind, instance_method, static_method, constructor, ViewDeclaration, View, IsOrdered, Found}
 use Rattle.jav_view.proofs.Lists.{All-from_each, Decides-not, Decides-fails, list_any-decides, find-none, find-holds_of_none, find-least, least-find}
 use Rattle.jav_view.proofs.NearestMembers.{nearest-is, is-nearest, nearest-has_none, has_none-nearest}
@@ -46,13 +46,13 @@ module _ {C M : Type 0} (view : View C M) (ordered : IsOrdered view) (class : C)
 
   reads_field : (o : Option (ViewField C M)) → field_here ≡ o → (b : Bool) → ends_outside view class ≡ b → ReadsField view class name (found_or o b)
   reads_field (Some field) is b ends = ReadsField.nearest (field-is field is)
-  reads_field None none true ends = ReadsField.past (field-none none) (ends_tests.0 ends)
-  reads_field None none false ends = ReadsField.nowhere (field-none none) (Decides-not ends_tests ends)
+  reads_field None none true ends = ReadsField.in_outside_class (field-none none) (ends_tests.0 ends)
+  reads_field None none false ends = ReadsField.not_there (field-none none) (Decides-not ends_tests ends)
 
   only_field : (reading : Found (ViewField C M)) → ReadsField view class name reading → reading ≡ field_from view class name
   only_field reading (ReadsField.nearest {field = field} is) = rw (is-field field is) refl
-  only_field reading (ReadsField.past none ends) = rw (none-field none, ends_tests.1 ends) refl
-  only_field reading (ReadsField.nowhere none ends) = rw (none-field none, Decides-fails ends_tests ends) refl
+  only_field reading (ReadsField.in_outside_class none ends) = rw (none-field none, ends_tests.1 ends) refl
+  only_field reading (ReadsField.not_there none ends) = rw (none-field none, Decides-fails ends_tests ends) refl
 
   pub field-answered : IsTheAnswer (ReadsField view class name) (field_from view class name)
   field-answered = record { holds = reads_field _ refl _ refl; only = only_field }
@@ -112,16 +112,16 @@ module _ {C M : Type 0} (view : View C M) (ordered : IsOrdered view) (class : C)
   reads_method : (o : Option (ViewDeclaration C M)) → method_here ≡ o → (a b : Bool) → ends_outside view class ≡ a → is_object_method name arity ≡ b
       → ReadsMethod view class name arity (found_or o (a || b))
   reads_method (Some d) is a b ends object = ReadsMethod.nearest (method-is d is)
-  reads_method None none true b ends object = ReadsMethod.past (method-none none) (past_tests.0 ends)
+  reads_method None none true b ends object = ReadsMethod.in_outside_class (method-none none) (past_tests.0 ends)
   reads_method None none false true ends object = ReadsMethod.of_object (method-none none) object
   reads_method None none false false ends object =
-      ReadsMethod.nowhere (method-none none) (Decides-not past_tests ends) (λ is. true≢false (sym is ∙ object))
+      ReadsMethod.not_there (method-none none) (Decides-not past_tests ends) (λ is. true≢false (sym is ∙ object))
 
   only_method : (reading : Found (ViewDeclaration C M)) → ReadsMethod view class name arity reading → reading ≡ method_from view class name arity
   only_method reading (ReadsMethod.nearest {declaration = d} is) = rw (is-method d is) refl
-  only_method reading (ReadsMethod.past none ends) = rw (none-method none, past_tests.1 ends) refl
+  only_method reading (ReadsMethod.in_outside_class none ends) = rw (none-method none, past_tests.1 ends) refl
   only_method reading (ReadsMethod.of_object none object) = rw (none-method none, object, or_right (ends_outside view class) true refl) refl
-  only_method reading (ReadsMethod.nowhere none ends object) =
+  only_method reading (ReadsMethod.not_there none ends object) =
       rw (none-method none, Decides-fails past_tests ends, false_from_ne_true (is_object_method name arity) object) refl
 
   pub method-answered : IsTheAnswer (ReadsMethod view class name arity) (method_from view class name arity)
@@ -154,19 +154,19 @@ module _ {C M : Type 0} (view : View C M) (ordered : IsOrdered view) (class : C)
       → ReadsSuperMethod view class name arity (found_above o (λ above. method_from view above name arity) (a || b))
   reads_super (Some above) is a b out object =
       ReadsSuperMethod.from_above (class_above-is view ordered.classes class above is) (method-answered view ordered above name arity).holds
-  reads_super None none true b out object = ReadsSuperMethod.past ((out_tests view ordered class).0 out)
+  reads_super None none true b out object = ReadsSuperMethod.in_outside_class ((out_tests view ordered class).0 out)
   reads_super None none false true out object = ReadsSuperMethod.of_object (no_superclass view ordered class none out) object
   reads_super None none false false out object =
-      ReadsSuperMethod.nowhere (no_superclass view ordered class none out) (λ is. true≢false (sym is ∙ object))
+      ReadsSuperMethod.not_there (no_superclass view ordered class none out) (λ is. true≢false (sym is ∙ object))
 
   only_super : (reading : Found (ViewDeclaration C M)) → ReadsSuperMethod view class name arity reading → reading ≡ super_method view class name arity
   only_super reading (ReadsSuperMethod.from_above {above = above} extends reads) =
       rw (is-class_above view ordered.classes class above extends) ((method-answered view ordered above name arity).only reading reads)
-  only_super reading (ReadsSuperMethod.past extends) =
+  only_super reading (ReadsSuperMethod.in_outside_class extends) =
       rw (outside-not_above view ordered class extends, (out_tests view ordered class).1 extends) refl
   only_super reading (ReadsSuperMethod.of_object none object) =
       rw (none-above view ordered class none, object, or_right (is_outside (view.superclass class)) true refl) refl
-  only_super reading (ReadsSuperMethod.nowhere none object) =
+  only_super reading (ReadsSuperMethod.not_there none object) =
       rw (
         none-above view ordered class none,
         Decides-fails (out_tests view ordered class) none.not_outside,
@@ -257,18 +257,18 @@ module _ {C M : Type 0} (view : View C M) (ordered : IsOrdered view) (class : C)
       (λ d of-d is. All-contains (λ e. ¬ IsConstructor class e) view.declarations d default.none_declared of-d is.declares)
 
   reads_constructor : (o : Option (ViewDeclaration C M)) → constructor_here ≡ o → (b : Bool) → is_default ≡ b
-      → ReadsConstructor view class arity (constructor_or o b)
+      → ReadsConstructor view class arity (constructor_or class o b)
   reads_constructor (Some d) is b default = ReadsConstructor.declared (constructor-is d is)
   reads_constructor None none true default = ReadsConstructor.by_default ((default_tests view ordered class arity).0 default)
   reads_constructor None none false default =
-      ReadsConstructor.nowhere (constructor-none none) (Decides-not (default_tests view ordered class arity) default)
+      ReadsConstructor.not_there (constructor-none none) (Decides-not (default_tests view ordered class arity) default)
 
-  only_constructor : (reading : Found (Option (ViewDeclaration C M))) → ReadsConstructor view class arity reading
+  only_constructor : (reading : Found (Constructor C M)) → ReadsConstructor view class arity reading
       → reading ≡ constructor_from view class arity
   only_constructor reading (ReadsConstructor.declared {declaration = d} is) = rw (is-constructor d is) refl
   only_constructor reading (ReadsConstructor.by_default default) =
       rw (none-constructor (default-none default), (default_tests view ordered class arity).1 default) refl
-  only_constructor reading (ReadsConstructor.nowhere none default) =
+  only_constructor reading (ReadsConstructor.not_there none default) =
       rw (none-constructor none, Decides-fails (default_tests view ordered class arity) default) refl
 
   pub constructor-answered : IsTheAnswer (ReadsConstructor view class arity) (constructor_from view class arity)
@@ -279,16 +279,16 @@ module _ {C M : Type 0} (view : View C M) (ordered : IsOrdered view) (class : C)
       → ReadsSuperConstructor view class arity (found_above o (λ above. constructor_from view above arity) b)
   reads_above (Some above) is b out =
       ReadsSuperConstructor.from_above (class_above-is view ordered.classes class above is) (constructor-answered view ordered above arity).holds
-  reads_above None none true out = ReadsSuperConstructor.past ((out_tests view ordered class).0 out)
-  reads_above None none false out = ReadsSuperConstructor.nowhere (no_superclass view ordered class none out)
+  reads_above None none true out = ReadsSuperConstructor.in_outside_class ((out_tests view ordered class).0 out)
+  reads_above None none false out = ReadsSuperConstructor.not_there (no_superclass view ordered class none out)
 
-  only_above : (reading : Found (Option (ViewDeclaration C M))) → ReadsSuperConstructor view class arity reading
+  only_above : (reading : Found (Constructor C M)) → ReadsSuperConstructor view class arity reading
       → reading ≡ super_constructor view class arity
   only_above reading (ReadsSuperConstructor.from_above {above = above} extends reads) =
       rw (is-class_above view ordered.classes class above extends) ((constructor-answered view ordered above arity).only reading reads)
-  only_above reading (ReadsSuperConstructor.past extends) =
+  only_above reading (ReadsSuperConstructor.in_outside_class extends) =
       rw (outside-not_above view ordered class extends, (out_tests view ordered class).1 extends) refl
-  only_above reading (ReadsSuperConstructor.nowhere none) =
+  only_above reading (ReadsSuperConstructor.not_there none) =
       rw (none-above view ordered class none, Decides-fails (out_tests view ordered class) none.not_outside) refl
 
   pub super_constructor-answered : IsTheAnswer (ReadsSuperConstructor view class arity) (super_constructor view class arity)

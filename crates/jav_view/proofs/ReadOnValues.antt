@@ -2,9 +2,9 @@
 use Rattle.std.proofs.Common.{◌≡◌, ℕ, Bool, true, false, cond, Option, Some, None, bytes_eq, codes, refl, sym, ◌∙◌, ap, subst}
 use Rattle.jav_view.specs.DottedNames.{Name}
 use Rattle.jav_view.specs.Laws.{IsTheAnswer}
-use Rattle.jav_view.specs.LookUps.{field_from, method_from, on_instance, on_value, field_on, method_on, static_of, static_field, static_method_of}
+use Rattle.jav_view.specs.LookUps.{field_from, method_from, on_instance, on_value, field_on, method_on, static_of, field_through, method_through, index_on}
 use Rattle.jav_view.specs.Members.{ReadsField, ReadsMethod, is_object_method}
-use Rattle.jav_view.specs.OnValues.{StaticType, primitive_value, null_value, void_value, mixed_value, outside_value, class_value, array_value, unread_value, OnValue, member, static_member, outside_member, no_member, OnInstance, ReadsOn, is_static_kind, ReadsFieldOn, ReadsMethodOn, Through, ReadsStaticField, ReadsStaticMethod}
+use Rattle.jav_view.specs.OnValues.{StaticType, primitive_value, null_value, void_value, mixed_value, outside_value, class_value, array_value, unread_value, OnValue, member, static_member, outside_member, missing_member, OnInstance, ReadsOn, is_static_kind, ReadsFieldOn, ReadsMethodOn, OnIndex, ReadsIndexOn, Through, ReadsStaticField, ReadsStaticMethod}
 use Rattle.jav_view.specs.Views.{View, IsOrdered, Found, found, outside, not_found}
 use Rattle.jav_view.proofs.ReadMembers.{field-answered, method-answered}
 
@@ -16,14 +16,14 @@ module _ {X : Type 0} (is_static : X → Bool) where
     by_test : (b : Bool) → is_static x ≡ b → OnInstance is_static (found x) (cond b (static_member x) (member x))
     by_test true is = OnInstance.on_static is
     by_test false is = OnInstance.on_instance is
-  instance-is outside = OnInstance.past
-  instance-is not_found = OnInstance.nowhere
+  instance-is outside = OnInstance.in_outside_class
+  instance-is not_found = OnInstance.not_there
 
   is-instance : (read : Found X) (on : OnValue X) → OnInstance is_static read on → on ≡ on_instance is_static read
   is-instance (found x) on (OnInstance.on_static is) = rw is refl
   is-instance (found x) on (OnInstance.on_instance is) = rw is refl
-  is-instance outside on OnInstance.past = refl
-  is-instance not_found on OnInstance.nowhere = refl
+  is-instance outside on OnInstance.in_outside_class = refl
+  is-instance not_found on OnInstance.not_there = refl
 
 module _ {C X : Type 0} (Reads : C → Found X → Type 0) (look_up : C → Found X) (answered : (class : C) → IsTheAnswer (Reads class) (look_up class))
     (is_static : X → Bool) (arrays_have : Bool) where
@@ -31,7 +31,7 @@ module _ {C X : Type 0} (Reads : C → Found X → Type 0) (look_up : C → Foun
   reads (class_value class) = ReadsOn.of_class (answered class).holds (instance-is is_static (look_up class))
   reads outside_value = ReadsOn.of_outside
   reads (array_value item) = by_test arrays_have refl where
-    by_test : (b : Bool) → arrays_have ≡ b → ReadsOn Reads is_static arrays_have (array_value item) (cond b outside_member no_member)
+    by_test : (b : Bool) → arrays_have ≡ b → ReadsOn Reads is_static arrays_have (array_value item) (cond b outside_member missing_member)
     by_test true is = ReadsOn.has_array is
     by_test false is = ReadsOn.has_no_array is
   reads primitive_value = ReadsOn.of_primitive
@@ -42,7 +42,7 @@ module _ {C X : Type 0} (Reads : C → Found X → Type 0) (look_up : C → Foun
 
   only : (type : StaticType C) (reading : OnValue X) → ReadsOn Reads is_static arrays_have type reading
       → reading ≡ on_value look_up is_static arrays_have type
-  only type reading (ReadsOn.of_class {class = class} {read = read} reads_class on) =
+  only type reading (ReadsOn.of_class {class = class} {reading = read} reads_class on) =
       is-instance is_static read reading on ∙ ap (on_instance is_static) ((answered class).only read reads_class)
   only type reading ReadsOn.of_outside = refl
   only type reading (ReadsOn.has_array is) = rw is refl
@@ -65,6 +65,31 @@ module _ {C M : Type 0} (view : View C M) (ordered : IsOrdered view) where
       → IsTheAnswer (ReadsMethodOn view name arity type) (method_on view name arity type)
   method_on-answered name arity = on_value-answered (λ class. ReadsMethod view class name arity) (λ class. method_from view class name arity)
       (λ class. method-answered view ordered class name arity) (λ d. is_static_kind d.kind) (is_object_method name arity)
+
+-- ---- an index
+
+index-is : {C : Type 0} (type : StaticType C) → ReadsIndexOn type (index_on type)
+index-is (class_value class) = ReadsIndexOn.of_class
+index-is outside_value = ReadsIndexOn.of_outside
+index-is (array_value item) = ReadsIndexOn.of_array
+index-is primitive_value = ReadsIndexOn.of_primitive
+index-is null_value = ReadsIndexOn.of_null
+index-is void_value = ReadsIndexOn.of_void
+index-is mixed_value = ReadsIndexOn.of_mixed
+index-is unread_value = ReadsIndexOn.of_unread
+
+is-index : {C : Type 0} (type : StaticType C) (reading : OnIndex) → ReadsIndexOn type reading → reading ≡ index_on type
+is-index type reading ReadsIndexOn.of_class = refl
+is-index type reading ReadsIndexOn.of_outside = refl
+is-index type reading ReadsIndexOn.of_array = refl
+is-index type reading ReadsIndexOn.of_primitive = refl
+is-index type reading ReadsIndexOn.of_null = refl
+is-index type reading ReadsIndexOn.of_void = refl
+is-index type reading ReadsIndexOn.of_mixed = refl
+is-index type reading ReadsIndexOn.of_unread = refl
+
+pub index_on-answered : {C : Type 0} (type : StaticType C) → IsTheAnswer (ReadsIndexOn type) (index_on type)
+index_on-answered type = record { holds = index-is type; only = is-index type }
 
 -- ---- through a class name
 
@@ -93,11 +118,11 @@ module _ {X : Type 0} (Reads : Found X → Type 0) (answer : Found X) (answered 
   through-answered = record { holds = through answer refl; only = only_through }
 
 module _ {C M : Type 0} (view : View C M) (ordered : IsOrdered view) (class : C) (name : Name) where
-  pub static_field-answered : IsTheAnswer (ReadsStaticField view class name) (static_field view class name)
+  pub static_field-answered : IsTheAnswer (ReadsStaticField view class name) (field_through view class name)
   static_field-answered =
       through-answered (ReadsField view class name) (field_from view class name) (field-answered view ordered class name) (λ field. field.is_static)
 
-  pub static_method-answered : (arity : ℕ) → IsTheAnswer (ReadsStaticMethod view class name arity) (static_method_of view class name arity)
+  pub static_method-answered : (arity : ℕ) → IsTheAnswer (ReadsStaticMethod view class name arity) (method_through view class name arity)
   static_method-answered arity =
       through-answered (ReadsMethod view class name arity) (method_from view class name arity)
       (method-answered view ordered class name arity) (λ d. is_static_kind d.kind)

@@ -96,9 +96,9 @@ module _ {C : Type 0} (classes : Classes C) (ordered : AreOrdered classes) (head
   reads (Some full) is = by_import full is _ refl
 
   only : (reading : TypeReading C) → ReadsSimple classes header name reading → reading ≡ simple_type classes header name
-  only reading (ReadsSimple.import_class {place = place} {full = full} {class = class} import named) =
+  only reading (ReadsSimple.import_class {place = place} {import = full} {class = class} import named) =
       rw (is-import_of header.imports name place full import, is-class_named classes ordered full class named) refl
-  only reading (ReadsSimple.import_outside {place = place} {full = full} import none) =
+  only reading (ReadsSimple.import_outside {place = place} {import = full} import none) =
       rw (is-import_of header.imports name place full import, none-class_named classes full none) refl
   only reading (ReadsSimple.own_class {class = class} no_import is named) =
       rw (none-import_of header.imports name no_import, is-own_named name header.own class is named) refl

@@ -144,8 +144,8 @@ module _ {C M : Type 0} (view : View C M) (ordered : IsOrdered view) (place : Pl
   reads_field : IsAbsent place.locals name → IsAbsent place.params name → (read : Found (ViewField C M)) → ReadsField view place.class name read
       → ReadsVariable view place name (field_found read)
   reads_field no_local no_param (found field) reads = ReadsVariable.nearest_field no_local no_param reads
-  reads_field no_local no_param outside reads = ReadsVariable.past no_local no_param reads
-  reads_field no_local no_param not_found reads = ReadsVariable.nowhere no_local no_param reads
+  reads_field no_local no_param outside reads = ReadsVariable.in_outside_class no_local no_param reads
+  reads_field no_local no_param not_found reads = ReadsVariable.not_there no_local no_param reads
 
   reads : (local : Option ℕ) → last_place name place.locals ≡ local → (param : Option ℕ) → first_place name place.params ≡ param
       → ReadsVariable view place name (local_or local param (field_from view place.class name))
@@ -158,14 +158,14 @@ module _ {C M : Type 0} (view : View C M) (ordered : IsOrdered view) (place : Pl
   field_only = (field-answered view ordered place.class name).only
 
   only : (reading : Found (Variable C M)) → ReadsVariable view place name reading → reading ≡ variable view place name
-  only reading (ReadsVariable.nearest_local {k = k} last) = rw (is-last_place name place.locals k last) refl
-  only reading (ReadsVariable.first_parameter {k = k} no_local first) =
+  only reading (ReadsVariable.nearest_local {number = k} last) = rw (is-last_place name place.locals k last) refl
+  only reading (ReadsVariable.first_parameter {number = k} no_local first) =
       rw (none-last_place name place.locals no_local, is-first_place name place.params k first) refl
   only reading (ReadsVariable.nearest_field no_local no_param reads) =
       rw (none-last_place name place.locals no_local, none-first_place name place.params no_param, ← field_only _ reads) refl
-  only reading (ReadsVariable.past no_local no_param reads) =
+  only reading (ReadsVariable.in_outside_class no_local no_param reads) =
       rw (none-last_place name place.locals no_local, none-first_place name place.params no_param, ← field_only _ reads) refl
-  only reading (ReadsVariable.nowhere no_local no_param reads) =
+  only reading (ReadsVariable.not_there no_local no_param reads) =
       rw (none-last_place name place.locals no_local, none-first_place name place.params no_param, ← field_only _ reads) refl
 
   pub variable-answered : IsTheAnswer (ReadsVariable view place name) (variable view place name)

@@ -1,39 +1,16 @@
--- The view of source files: its order, and what types as written are in it.
-use Rattle.std.proofs.Common.{◌≡◌, sym, ◌∙◌, ap}
-use Rattle.jav_tree.specs.declared.types.TypeName.{TypeName}
-use Rattle.jav_tree.specs.declared.types.TypeName.TheVariants as types
-use Rattle.jav_tree.specs.declared.types.TypeName.TheOpen.{TypeName-F}
-use Rattle.jav_tree.specs.declared.types.TypeName.TheFolds.{fold-roll-TypeName}
-use Rattle.jav_view.specs.DottedNames.{Name, cut}
+-- The view of source files: its order, and that the class of each file is one of it.
+use Rattle.std.proofs.Common.{◌≡◌, ℕ, List, Contains, map, subst}
+use Rattle.jav_tree.specs.declared.unit.Unit.{Unit as Source}
 use Rattle.jav_view.specs.Laws.{UnitsViewed}
-use Rattle.jav_view.specs.Types.{Header}
-use Rattle.jav_view.specs.UnitViews.{classes_of, type_of, type_step, type_in}
-use Rattle.jav_view.specs.Views.{ViewType, primitive_type, void_type, array_type, Classes}
-use Rattle.jav_view.proofs.ReadTypes.{type-answered}
-use Rattle.jav_view.proofs.UnitsOrdered.{classes_of-ordered, view_of_ordered}
+use Rattle.jav_view.specs.Types.{OwnStands}
+use Rattle.jav_view.specs.UnitViews.{numbered, class_of, classes_of, header_of}
+use Rattle.jav_view.proofs.Lists.{stands-mapped}
+use Rattle.jav_view.proofs.UnitsOrdered.{view_of_ordered}
 
-module _ {C : Type 0} (classes : Classes C) (header : Header C) where
-  pub type_in-Prim : (text : Name) → type_in classes header (types.Prim text) ≡ primitive_type text
-  type_in-Prim text = ap (type_in classes header) (sym (types.rolls-Prim text))
-      ∙ fold-roll-TypeName (ViewType C) (type_step classes header) (TypeName-F.Prim text)
-
-  pub type_in-Named : (text : Name) → type_in classes header (types.Named text) ≡ type_step classes header (TypeName-F.Named text)
-  type_in-Named text = ap (type_in classes header) (sym (types.rolls-Named text))
-      ∙ fold-roll-TypeName (ViewType C) (type_step classes header) (TypeName-F.Named text)
-
-  pub type_in-ArrayOf : (item : TypeName) → type_in classes header (types.ArrayOf item) ≡ array_type (type_in classes header item)
-  type_in-ArrayOf item = ap (type_in classes header) (sym (types.rolls-ArrayOf item))
-      ∙ fold-roll-TypeName (ViewType C) (type_step classes header) (TypeName-F.ArrayOf item)
-
-  pub type_in-Void : type_in classes header types.Void ≡ void_type
-  type_in-Void = ap (type_in classes header) (sym types.rolls-Void) ∙ fold-roll-TypeName (ViewType C) (type_step classes header) TypeName-F.Void
+own-stands : (units : List Source) (unit : ℕ × Source) → Contains (numbered units) unit → OwnStands (classes_of units) (header_of unit)
+own-stands units unit of-unit class is =
+    let same : class_of unit ≡ class = cc in
+    subst (Contains (map class_of (numbered units))) same (stands-mapped class_of (numbered units) unit of-unit)
 
 pub units_viewed : UnitsViewed
-units_viewed = record {
-  ordered = view_of_ordered;
-  primitive_types = λ units header text. type_in-Prim (classes_of units) header text;
-  named_types = λ units header text read reads. type_in-Named (classes_of units) header text
-      ∙ ap type_of (sym ((type-answered (classes_of units) (classes_of-ordered units) header (cut text).first (cut text).rest).only read reads));
-  array_types = λ units header item. type_in-ArrayOf (classes_of units) header item;
-  void_types = λ units header. type_in-Void (classes_of units) header;
-}
+units_viewed = record { ordered = view_of_ordered; own_classes = own-stands }

@@ -122,13 +122,13 @@ filter-length {X} p (x ∷ xs) = by_test (p x) (filter-length p xs) where
 -- ---- the walk
 
 -- how many classes of the view were not met
-abbrev pub left : {C : Type 0} → Classes C → List C → ℕ
-left classes met = length (filter (λ x. not (is_met classes met x.key)) classes.items)
+abbrev pub not_met : {C : Type 0} → Classes C → List C → ℕ
+not_met classes met = length (filter (λ x. not (is_met classes met x.key)) classes.items)
 
 module _ {C : Type 0} (classes : Classes C) (ordered : AreOrdered classes) where
-  -- a class that was not met is left, and no more is left once it is met
-  left-more : (met : List C) (class : C) → HasClass classes class → is_met classes met class ≡ false → left classes (class ∷ met) < left classes met
-  left-more met class has new = fewer (λ x. not (is_met classes met x.key)) (λ x. not (is_met classes (class ∷ met) x.key))
+  -- a class that was not met is among these, and is not any more once it is met
+  not_met-fewer : (met : List C) (class : C) → HasClass classes class → is_met classes met class ≡ false → not_met classes (class ∷ met) < not_met classes met
+  not_met-fewer met class has new = fewer (λ x. not (is_met classes met x.key)) (λ x. not (is_met classes (class ∷ met) x.key))
       (λ x is. not_or (is_eq (classes.cmp class x.key)) (is_met classes met x.key) is) classes.items has.class has.stands
       (ap not (ap (is_met classes met) has.is ∙ new)) (ap not (seen has.class.key has.is)) where
         not_or : (a b : Bool) → not (a || b) ≡ true → not b ≡ true
@@ -138,8 +138,8 @@ module _ {C : Type 0} (classes : Classes C) (ordered : AreOrdered classes) where
         seen : (key : C) → key ≡ class → is_met classes (class ∷ met) key ≡ true
         seen key is = rw ((same_key ordered.order class key).1 (sym is)) refl
 
-  left-some : (met : List C) (class : C) → HasClass classes class → is_met classes met class ≡ false → 0 < left classes met
-  left-some met class has new =
+  not_met-some : (met : List C) (class : C) → HasClass classes class → is_met classes met class ≡ false → 0 < not_met classes met
+  not_met-some met class has new =
       some_pass (λ x. not (is_met classes met x.key)) classes.items has.class has.stands (ap not (ap (is_met classes met) has.is ∙ new))
 
 module _ {C M : Type 0} (view : View C M) (ordered : AreOrdered view.classes) where
@@ -169,25 +169,25 @@ module _ {C M : Type 0} (view : View C M) (ordered : AreOrdered view.classes) wh
     by_above None named is = absurd cc
     by_above (Some a) named is = by_test a named _ refl is
 
-  -- with as many steps as there are classes left, or more, the list is the way
-  pub follows : (steps : ℕ) (met : List C) (class : C) → left view.classes (class ∷ met) ≤ steps → Follows view met class (way_from steps view met class)
-  follows zero met class none_left = Follows.end ends where
+  -- with as many steps as there are classes not met, or more, the list is the way
+  pub follows : (steps : ℕ) (met : List C) (class : C) → not_met view.classes (class ∷ met) ≤ steps → Follows view met class (way_from steps view met class)
+  follows zero met class none_more = Follows.end ends where
     ends : (above : C) → Extends view class above → Contains (class ∷ met) above
     ends above extends = by_test (is_met view.classes (class ∷ met) above) refl where
       by_test : (b : Bool) → is_met view.classes (class ∷ met) above ≡ b → Contains (class ∷ met) above
       by_test true seen = (is_met-decides view.classes ordered (class ∷ met) above).0 seen
-      by_test false new = absurd (omega (arith, none_left, left-some view.classes ordered (class ∷ met) above extends.stands new))
-  follows (suc steps) met class few_left =
+      by_test false new = absurd (omega (arith, none_more, not_met-some view.classes ordered (class ∷ met) above extends.stands new))
+  follows (suc steps) met class few_more =
       by_next (unmet view.classes (class ∷ met) (class_above view class)) refl (λ above. follows steps (class ∷ met) above) where
         by_next : (o : Option C) → unmet view.classes (class ∷ met) (class_above view class) ≡ o
-            → ((above : C) → left view.classes (above ∷ class ∷ met) ≤ steps → Follows view (class ∷ met) above (way_from steps view (class ∷ met) above))
+            → ((above : C) → not_met view.classes (above ∷ class ∷ met) ≤ steps → Follows view (class ∷ met) above (way_from steps view (class ∷ met) above))
             → Follows view met class (class ∷ each_above o (λ above. way_from steps view (class ∷ met) above))
         by_next None is more = Follows.end (stops (class ∷ met) class is)
         by_next (Some above) is more =
             let next = goes_on (class ∷ met) class above is in
-            let fewer_left = left-more view.classes ordered (class ∷ met) above next.0.stands next.1 in
+            let still_fewer = not_met-fewer view.classes ordered (class ∷ met) above next.0.stands next.1 in
             Follows.up next.0 (Decides-not (is_met-decides view.classes ordered (class ∷ met) above) next.1)
-            (more above (omega (arith, few_left, fewer_left)))
+            (more above (omega (arith, few_more, still_fewer)))
 
   -- the way is there
   pub way-is : (class : C) → Way view class (way view class)

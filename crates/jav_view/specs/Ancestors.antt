@@ -42,3 +42,16 @@ pub record EndsOutside {C M : Type 0} (view : View C M) (class : C) : Type 0 whe
   pub last : C
   pub way : Way view class (below ++ last ∷ [])
   pub extends : ExtendsOutside view last
+
+-- The second is an ancestor of the first: the way from the first up meets it, after the first. In a circle of superclasses no class is
+-- its own ancestor.
+pub record IsAncestor {C M : Type 0} (view : View C M) (class above : C) : Type 0 where
+  pub ancestors : List C
+  pub way : Way view class (class ∷ ancestors)
+  pub met : Contains ancestors above
+
+-- Going up from the first, in one step or more, comes to the second. That is said apart from the way, which ends before a class that it
+-- has met: where superclasses run in a circle, going up leads from a class to itself, and its way does not show it.
+pub data Leads {C M : Type 0} (view : View C M) : C → C → Type 0 where
+  last_step : {class above : C} → Extends view class above → Leads view class above
+  step : {class above top : C} → Extends view class above → Leads view above top → Leads view class top

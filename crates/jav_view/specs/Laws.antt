@@ -1,17 +1,21 @@
 -- That each rule has exactly one answer, which is what its function finds.
-use Rattle.std.specs.Prelude.{◌≡◌, ◌⊎◌, ℕ, List, All}
+use Rattle.std.specs.Prelude.{◌≡◌, ◌⊎◌, ℕ, List, All, Contains}
+use Rattle.std.specs.Bool.{Decides}
+use Rattle.std.specs.declared.cmp.Ordering.{Ordering}
 use Rattle.jav_tree.specs.declared.types.TypeName.{TypeName}
-use Rattle.jav_tree.specs.declared.types.TypeName.TheVariants as types
+use Rattle.jav_tree.specs.declared.types.TypeName.TheVariants as type_name
 use Rattle.jav_tree.specs.declared.unit.Unit.{Unit as Source}
 use Rattle.jav_view.specs.DottedNames.{Name, Names, joined, cut, HasNoDot}
 use Rattle.jav_view.specs.Leftmost.{ReadsLeftmost}
-use Rattle.jav_view.specs.LookUps.{simple_type, type_named, field_from, method_from, super_method, constructor_from, super_constructor, variable, leftmost, field_on, method_on, static_field, static_method_of}
+use Rattle.jav_view.specs.LookUps.{simple_type, type_named, field_from, method_from, super_method, constructor_from, super_constructor, variable, leftmost, field_on, method_on, index_on, field_through, method_through}
 use Rattle.jav_view.specs.Members.{ReadsField, ReadsMethod, ReadsSuperMethod, ReadsConstructor, ReadsSuperConstructor}
-use Rattle.jav_view.specs.OnValues.{StaticType, ReadsFieldOn, ReadsMethodOn, ReadsStaticField, ReadsStaticMethod}
-use Rattle.jav_view.specs.Types.{Header, TypeReading, ReadsSimple, ReadsType}
-use Rattle.jav_view.specs.UnitViews.{classes_of, type_of, type_in, view_of}
+use Rattle.jav_view.specs.OnValues.{StaticType, ReadsFieldOn, ReadsMethodOn, ReadsIndexOn, ReadsStaticField, ReadsStaticMethod}
+use Rattle.jav_view.specs.StaticTypes.{ReadsCommon, common, SameType, same_type}
+use Rattle.jav_view.specs.TypeTexts.{ReadsTypeText, type_of, type_in}
+use Rattle.jav_view.specs.Types.{Header, OwnStands, TypeReading, ReadsSimple, ReadsType}
+use Rattle.jav_view.specs.UnitViews.{numbered, classes_of, header_of, view_of}
 use Rattle.jav_view.specs.Variables.{Place, ReadsVariable}
-use Rattle.jav_view.specs.Views.{primitive_type, void_type, array_type, Classes, AreOrdered, View, IsOrdered, Found, found, outside, not_found}
+use Rattle.jav_view.specs.Views.{ViewType, primitive_type, void_type, array_type, Classes, IsKeyOrder, AreOrdered, View, IsOrdered, Found, found, outside, not_found}
 
 -- A rule holds of this answer and of no other.
 pub record IsTheAnswer {A : Type 0} (Reads : A → Type 0) (answer : A) : Type 0 where
@@ -24,6 +28,14 @@ pub record TypesAnswered (C : Type 0) : Type 0 where
       → IsTheAnswer (ReadsSimple classes header name) (simple_type classes header name)
   pub types : (classes : Classes C) (header : Header C) (first : Name) (rest : Names) → AreOrdered classes
       → IsTheAnswer (ReadsType classes header first rest) (type_named classes header first rest)
+  -- a type as it is written, part by part
+  pub primitive_types : (classes : Classes C) (header : Header C) (text : Name)
+      → type_in classes header (type_name.Prim text) ≡ primitive_type text
+  pub named_types : (classes : Classes C) (header : Header C) (text : Name) (reading : TypeReading C) → AreOrdered classes
+      → ReadsTypeText classes header text reading → type_in classes header (type_name.Named text) ≡ type_of reading
+  pub array_types : (classes : Classes C) (header : Header C) (item : TypeName)
+      → type_in classes header (type_name.ArrayOf item) ≡ array_type (type_in classes header item)
+  pub void_types : (classes : Classes C) (header : Header C) → type_in classes header type_name.Void ≡ void_type
 
 -- Each rule on members and variables, where the keys of classes and members are of these types.
 pub record NamesAnswered (C M : Type 0) : Type 0 where
@@ -45,18 +57,21 @@ pub record NamesAnswered (C M : Type 0) : Type 0 where
       → IsTheAnswer (ReadsFieldOn view name type) (field_on view name type)
   pub methods_on : (view : View C M) (name : Name) (arity : ℕ) (type : StaticType C) → IsOrdered view
       → IsTheAnswer (ReadsMethodOn view name arity type) (method_on view name arity type)
+  pub indexes_on : (type : StaticType C) → IsTheAnswer (ReadsIndexOn type) (index_on type)
   pub static_fields : (view : View C M) (class : C) (name : Name) → IsOrdered view
-      → IsTheAnswer (ReadsStaticField view class name) (static_field view class name)
+      → IsTheAnswer (ReadsStaticField view class name) (field_through view class name)
   pub static_methods : (view : View C M) (class : C) (name : Name) (arity : ℕ) → IsOrdered view
-      → IsTheAnswer (ReadsStaticMethod view class name arity) (static_method_of view class name arity)
+      → IsTheAnswer (ReadsStaticMethod view class name arity) (method_through view class name arity)
+  pub choices : (view : View C M) (first second : StaticType C) → IsOrdered view
+      → IsTheAnswer (ReadsCommon view first second) (common view first second)
 
 -- Exactly one of three: something is found, and nothing else; or it is outside; or there is no such thing.
 pub record IsDecided {A : Type 0} (Reads : Found A → Type 0) : Type 0 where
   pub some : ((x : A) × Reads (found x)) ⊎ (Reads outside ⊎ Reads not_found)
   pub unique : (x y : A) → Reads (found x) → Reads (found y) → x ≡ y
-  pub found_not_outside : (x : A) → Reads (found x) → ¬ Reads outside
-  pub found_not_missing : (x : A) → Reads (found x) → ¬ Reads not_found
-  pub outside_not_missing : Reads outside → ¬ Reads not_found
+  pub never_found_and_outside : (x : A) → Reads (found x) → ¬ Reads outside
+  pub never_found_and_not_found : (x : A) → Reads (found x) → ¬ Reads not_found
+  pub never_outside_and_not_found : Reads outside → ¬ Reads not_found
 
 pub record NamesDecided (C M : Type 0) : Type 0 where
   pub fields : (view : View C M) (class : C) (name : Name) → IsOrdered view → IsDecided (ReadsField view class name)
@@ -73,14 +88,14 @@ pub record NamesCut : Type 0 where
   pub parts : (first : Name) (rest : Names) → HasNoDot first → All HasNoDot rest
       → cut (joined first rest) ≡ record { first = first; rest = rest }
 
--- The view of source files ascends by its keys. A type in it is what the type as written reads as, part by part.
+-- Whether two types are equal, by a test of keys in their order.
+pub record TypesCompared (C : Type 0) : Type 0 where
+  pub tested : (cmp : C → C → Ordering) (first second : ViewType C) → IsKeyOrder cmp
+      → Decides (same_type cmp first second) (SameType first second)
+  pub one_type : (first second : ViewType C) → SameType first second → first ≡ second
+
+-- The view of source files ascends by its keys, and the class of each file is one of it.
 pub record UnitsViewed : Type 0 where
   pub ordered : (units : List Source) → IsOrdered (view_of units)
-  pub primitive_types : (units : List Source) (header : Header ℕ) (text : Name)
-      → type_in (classes_of units) header (types.Prim text) ≡ primitive_type text
-  pub named_types : (units : List Source) (header : Header ℕ) (text : Name) (read : TypeReading ℕ)
-      → ReadsType (classes_of units) header (cut text).first (cut text).rest read
-      → type_in (classes_of units) header (types.Named text) ≡ type_of read
-  pub array_types : (units : List Source) (header : Header ℕ) (item : TypeName)
-      → type_in (classes_of units) header (types.ArrayOf item) ≡ array_type (type_in (classes_of units) header item)
-  pub void_types : (units : List Source) (header : Header ℕ) → type_in (classes_of units) header types.Void ≡ void_type
+  pub own_classes : (units : List Source) (unit : ℕ × Source) → Contains (numbered units) unit
+      → OwnStands (classes_of units) (header_of unit)

@@ -15,23 +15,24 @@ pub data Leftmost (C M : Type 0) : Type 0 where
 
 -- Neither a local nor a parameter nor a field of the view has this name. An inherited field of an outside class is no variable here.
 abbrev pub IsNoVariable : {C M : Type 0} → View C M → Place C → Name → Type 0
-IsNoVariable {C} {M} view place name = (x : Variable C M) → ¬ ReadsVariable view place name (found x)
+IsNoVariable {C} {M} view place name = (variable : Variable C M) → ¬ ReadsVariable view place name (found variable)
 
 -- A name and as few as can be of those that follow it are the full name of this class: `further` of those that follow.
 pub record IsFewest {C : Type 0} (classes : Classes C) (first : Name) (rest : Names) (further : ℕ) (class : ViewClass C) : Type 0 where
   pub here : IsClassNamed classes (joined first (take further rest)) class
-  pub none_fewer : (k : ℕ) → k < further → NoClassNamed classes (joined first (take k rest))
+  pub none_fewer : (count : ℕ) → count < further → NoClassNamed classes (joined first (take count rest))
 
 -- The first name is, in this order, a variable, a type of the view or an import, the beginning of a class's full name; else it is
 -- outside.
 pub data ReadsLeftmost {C M : Type 0} (view : View C M) (place : Place C) (first : Name) (rest : Names) : Leftmost C M → Type 0 where
-  by_variable : {x : Variable C M} → ReadsVariable view place first (found x) → ReadsLeftmost view place first rest (leftmost_variable x)
-  by_class : {c : C} → IsNoVariable view place first → ReadsSimple view.classes place.header first (class_read c)
-      → ReadsLeftmost view place first rest (leftmost_class c 1)
-  by_import : {full : Name} → IsNoVariable view place first → ReadsSimple view.classes place.header first (imported full [])
-      → ReadsLeftmost view place first rest (leftmost_import full)
-  by_full_name : {further : ℕ} {c : ViewClass C} → IsNoVariable view place first
+  by_variable : {variable : Variable C M} → ReadsVariable view place first (found variable)
+      → ReadsLeftmost view place first rest (leftmost_variable variable)
+  by_class : {class : C} → IsNoVariable view place first → ReadsSimple view.classes place.header first (class_read class)
+      → ReadsLeftmost view place first rest (leftmost_class class 1)
+  by_import : {import : Name} → IsNoVariable view place first → ReadsSimple view.classes place.header first (imported import [])
+      → ReadsLeftmost view place first rest (leftmost_import import)
+  by_full_name : {further : ℕ} {class : ViewClass C} → IsNoVariable view place first
       → ReadsSimple view.classes place.header first (written first)
-      → IsFewest view.classes first rest further c → ReadsLeftmost view place first rest (leftmost_class c.key (suc further))
+      → IsFewest view.classes first rest further class → ReadsLeftmost view place first rest (leftmost_class class.key (suc further))
   as_written : IsNoVariable view place first → ReadsSimple view.classes place.header first (written first)
-      → ((k : ℕ) → NoClassNamed view.classes (joined first (take k rest))) → ReadsLeftmost view place first rest leftmost_outside
+      → ((count : ℕ) → NoClassNamed view.classes (joined first (take count rest))) → ReadsLeftmost view place first rest leftmost_outside

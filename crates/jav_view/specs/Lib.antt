@@ -6,6 +6,9 @@ pub mod Laws
 pub mod LookUps
 pub mod Members
 pub mod OnValues
+pub mod Standing
+pub mod StaticTypes
+pub mod TypeTexts
 pub mod Types
 pub mod UnitViews
 pub mod Variables

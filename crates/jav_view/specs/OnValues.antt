@@ -23,29 +23,29 @@ pub data OnValue (X : Type 0) : Type 0 where
   member : X → OnValue X
   static_member : X → OnValue X
   outside_member : OnValue X
-  no_member : OnValue X
-  no_members : OnValue X
+  missing_member : OnValue X
+  has_no_members : OnValue X
   unread_member : OnValue X
 
 -- what is found in a class, on a value of it
 pub data OnInstance {X : Type 0} (is_static : X → Bool) : Found X → OnValue X → Type 0 where
   on_instance : {x : X} → is_static x ≡ false → OnInstance is_static (found x) (member x)
   on_static : {x : X} → is_static x ≡ true → OnInstance is_static (found x) (static_member x)
-  past : OnInstance is_static outside outside_member
-  nowhere : OnInstance is_static not_found no_member
+  in_outside_class : OnInstance is_static outside outside_member
+  not_there : OnInstance is_static not_found missing_member
 
 -- A member of a value, where `Reads` says what a class has, and `arrays_have` whether arrays have it.
 pub data ReadsOn {C X : Type 0} (Reads : C → Found X → Type 0) (is_static : X → Bool) (arrays_have : Bool)
     : StaticType C → OnValue X → Type 0 where
-  of_class : {class : C} {read : Found X} {on : OnValue X} → Reads class read → OnInstance is_static read on
-      → ReadsOn Reads is_static arrays_have (class_value class) on
+  of_class : {class : C} {reading : Found X} {answer : OnValue X} → Reads class reading → OnInstance is_static reading answer
+      → ReadsOn Reads is_static arrays_have (class_value class) answer
   of_outside : ReadsOn Reads is_static arrays_have outside_value outside_member
   has_array : {item : ViewType C} → arrays_have ≡ true → ReadsOn Reads is_static arrays_have (array_value item) outside_member
-  has_no_array : {item : ViewType C} → arrays_have ≡ false → ReadsOn Reads is_static arrays_have (array_value item) no_member
-  of_primitive : ReadsOn Reads is_static arrays_have primitive_value no_members
-  of_null : ReadsOn Reads is_static arrays_have null_value no_members
-  of_void : ReadsOn Reads is_static arrays_have void_value no_members
-  of_mixed : ReadsOn Reads is_static arrays_have mixed_value no_members
+  has_no_array : {item : ViewType C} → arrays_have ≡ false → ReadsOn Reads is_static arrays_have (array_value item) missing_member
+  of_primitive : ReadsOn Reads is_static arrays_have primitive_value has_no_members
+  of_null : ReadsOn Reads is_static arrays_have null_value has_no_members
+  of_void : ReadsOn Reads is_static arrays_have void_value has_no_members
+  of_mixed : ReadsOn Reads is_static arrays_have mixed_value has_no_members
   of_unread : ReadsOn Reads is_static arrays_have unread_value unread_member
 
 -- a method that is no instance method; constructors are no methods
@@ -61,7 +61,7 @@ ReadsFieldOn view name = ReadsOn (λ class. ReadsField view class name) (λ fiel
 -- A method of a value: arrays have the methods of `Object` (JLS 10.7), which are outside.
 abbrev pub ReadsMethodOn : {C M : Type 0} → View C M → Name → ℕ → StaticType C → OnValue (ViewDeclaration C M) → Type 0
 ReadsMethodOn view name arity =
-    ReadsOn (λ class. ReadsMethod view class name arity) (λ d. is_static_kind d.kind) (is_object_method name arity)
+    ReadsOn (λ class. ReadsMethod view class name arity) (λ declared. is_static_kind declared.kind) (is_object_method name arity)
 
 -- Through a class name a static member is found, and nothing else.
 pub data Through {X : Type 0} (Reads : Found X → Type 0) (is_static : X → Bool) : Option X → Type 0 where
@@ -72,9 +72,22 @@ abbrev pub ReadsStaticField : {C M : Type 0} → View C M → C → Name → Opt
 ReadsStaticField view class name = Through (ReadsField view class name) (λ field. field.is_static)
 
 abbrev pub ReadsStaticMethod : {C M : Type 0} → View C M → C → Name → ℕ → Option (ViewDeclaration C M) → Type 0
-ReadsStaticMethod view class name arity = Through (ReadsMethod view class name arity) (λ d. is_static_kind d.kind)
+ReadsStaticMethod view class name arity = Through (ReadsMethod view class name arity) (λ declared. is_static_kind declared.kind)
 
--- A value that may be indexed (JLS 15.10.3): an array, or what is outside.
-pub data IsIndexed {C : Type 0} : StaticType C → Type 0 where
-  indexed_array : {item : ViewType C} → IsIndexed (array_value item)
-  indexed_outside : IsIndexed outside_value
+-- What an index after a value comes to: an item, which is outside; an error of a value that has no items; nothing that may be said of
+-- a value whose type's name reads as nothing.
+pub data OnIndex : Type 0 where
+  indexed : OnIndex
+  not_indexed : OnIndex
+  unread_index : OnIndex
+
+-- An array has items (JLS 10.4, 15.10.3), and so may what is outside.
+pub data ReadsIndexOn {C : Type 0} : StaticType C → OnIndex → Type 0 where
+  of_array : {item : ViewType C} → ReadsIndexOn (array_value item) indexed
+  of_outside : ReadsIndexOn outside_value indexed
+  of_class : {class : C} → ReadsIndexOn (class_value class) not_indexed
+  of_primitive : ReadsIndexOn primitive_value not_indexed
+  of_null : ReadsIndexOn null_value not_indexed
+  of_void : ReadsIndexOn void_value not_indexed
+  of_mixed : ReadsIndexOn mixed_value not_indexed
+  of_unread : ReadsIndexOn unread_value unread_index

@@ -1,5 +1,5 @@
 -- What the name of a type reads as (JLS 6.4.1, 6.5.5, 7.5.1).
-use Rattle.std.specs.Prelude.{◌≡◌, ◌≢◌, ℕ, [], ◌∷◌, Option, Some}
+use Rattle.std.specs.Prelude.{◌≡◌, ◌≢◌, ℕ, [], ◌∷◌, Option, Some, Contains}
 use Rattle.jav_view.specs.Choices.{IsFirst, IsLeast, HoldsOfNone}
 use Rattle.jav_view.specs.DottedNames.{Name, Names, joined, simple_name}
 use Rattle.jav_view.specs.Views.{ViewClass, Classes}
@@ -28,14 +28,18 @@ pub record Header (C : Type 0) : Type 0 where
 
 -- The import of a simple name; of several the first.
 abbrev pub IsImport : Names → Name → ℕ → Name → Type 0
-IsImport imports name = IsFirst (λ full. simple_name full ≡ name) imports
+IsImport imports name = IsFirst (λ import. simple_name import ≡ name) imports
 
 abbrev pub NoImport : Names → Name → Type 0
-NoImport imports name = HoldsOfNone (λ full. simple_name full ≡ name) imports
+NoImport imports name = HoldsOfNone (λ import. simple_name import ≡ name) imports
 
 -- The file's own class does not have this name.
 abbrev pub IsNotOwn : {C : Type 0} → Header C → Name → Type 0
 IsNotOwn {C} header name = (class : ViewClass C) → header.own ≡ Some class → class.name ≢ name
+
+-- The file's own class, where the header has one, stands among these classes.
+abbrev pub OwnStands : {C : Type 0} → Classes C → Header C → Type 0
+OwnStands {C} classes header = (class : ViewClass C) → header.own ≡ Some class → Contains classes.items class
 
 -- ---- the rules
 
@@ -43,7 +47,7 @@ IsNotOwn {C} header name = (class : ViewClass C) → header.own ≡ Some class �
 -- outside type as it is written; or nothing.
 pub data TypeReading (C : Type 0) : Type 0 where
   class_read : C → TypeReading C
-  imported : (full rest : Name) → TypeReading C
+  imported : (import rest : Name) → TypeReading C
   written : Name → TypeReading C
   no_type : TypeReading C
 
@@ -51,11 +55,11 @@ pub data TypeReading (C : Type 0) : Type 0 where
 -- (JLS 6.4.1, 7.5.1).
 pub data ReadsSimple {C : Type 0} (classes : Classes C) (header : Header C) (name : Name) : TypeReading C → Type 0 where
   -- the import names a class of the view
-  import_class : {place : ℕ} {full : Name} {class : ViewClass C} → IsImport header.imports name place full → IsClassNamed classes full class
-      → ReadsSimple classes header name (class_read class.key)
+  import_class : {place : ℕ} {import : Name} {class : ViewClass C} → IsImport header.imports name place import
+      → IsClassNamed classes import class → ReadsSimple classes header name (class_read class.key)
   -- the import names an outside type
-  import_outside : {place : ℕ} {full : Name} → IsImport header.imports name place full → NoClassNamed classes full
-      → ReadsSimple classes header name (imported full [])
+  import_outside : {place : ℕ} {import : Name} → IsImport header.imports name place import → NoClassNamed classes import
+      → ReadsSimple classes header name (imported import [])
   -- no import has this name, and the file's own class does
   own_class : {class : ViewClass C} → NoImport header.imports name → header.own ≡ Some class → class.name ≡ name
       → ReadsSimple classes header name (class_read class.key)
@@ -70,10 +74,10 @@ pub data ReadsSimple {C : Type 0} (classes : Classes C) (header : Header C) (nam
 -- is named in it, and the classes here have no classes in them. Else the whole is a class's full name, or outside.
 pub data ReadsType {C : Type 0} (classes : Classes C) (header : Header C) (first : Name) : Names → TypeReading C → Type 0 where
   -- there is no dot
-  simple : {read : TypeReading C} → ReadsSimple classes header first read → ReadsType classes header first [] read
+  simple : {reading : TypeReading C} → ReadsSimple classes header first reading → ReadsType classes header first [] reading
   -- the first is an outside type that is imported
-  in_import : {full next : Name} {rest : Names} → ReadsSimple classes header first (imported full [])
-      → ReadsType classes header first (next ∷ rest) (imported full (joined next rest))
+  in_import : {import next : Name} {rest : Names} → ReadsSimple classes header first (imported import [])
+      → ReadsType classes header first (next ∷ rest) (imported import (joined next rest))
   -- the first is a class
   in_class : {class : C} {next : Name} {rest : Names} → ReadsSimple classes header first (class_read class)
       → ReadsType classes header first (next ∷ rest) no_type

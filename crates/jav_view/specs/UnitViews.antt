@@ -1,20 +1,18 @@
 -- The view of source files: a class has the number of its file as key, and a member that number and its own in the class.
-use Rattle.std.specs.Prelude.{ℕ, List, [], ◌∷◌, ◌++◌, map, length, Option, Some, None, option_map, if◌then◌else◌, slice_get, flat_map, filter_map}
+use Rattle.std.specs.Prelude.{ℕ, List, [], map, length, Option, Some, None, option_map, if◌then◌else◌, slice_get, flat_map, filter_map}
 use Rattle.std.specs.List.{enumerate_from}
 use Rattle.std.specs.Option.{option_flatten}
 use Rattle.std.specs.Ordering.{nat_cmp, on, then_cmp}
 use Rattle.std.specs.declared.cmp.Ordering.{Ordering}
 use Rattle.mol_base.specs.Modifiers.{has}
-use Rattle.jav_tree.specs.declared.types.TypeName.{TypeName, fold-TypeName}
-use Rattle.jav_tree.specs.declared.types.TypeName.TheOpen.{TypeName-F}
 use Rattle.jav_tree.specs.declared.unit.Member.{Member}
 use Rattle.jav_tree.specs.declared.unit.Member.TheVariants as member
 use Rattle.jav_tree.specs.declared.unit.Unit.{Unit as Source}
-use Rattle.jav_view.specs.DottedNames.{Names, dot, cut}
-use Rattle.jav_view.specs.LookUps.{type_named}
-use Rattle.jav_view.specs.Types.{Header, TypeReading, class_read, imported, written, no_type}
+use Rattle.jav_view.specs.DottedNames.{Names}
+use Rattle.jav_view.specs.TypeTexts.{type_in}
+use Rattle.jav_view.specs.Types.{Header}
 use Rattle.jav_view.specs.Variables.{Place}
-use Rattle.jav_view.specs.Views.{ViewType, primitive_type, void_type, class_type, outside_type, array_type, unread_type, ViewClass, ViewField, instance_method, static_method, constructor, ViewDeclaration, Classes, View}
+use Rattle.jav_view.specs.Views.{ViewType, void_type, ViewClass, ViewField, instance_method, static_method, constructor, ViewDeclaration, Classes, View}
 
 -- ---- keys
 
@@ -40,52 +38,32 @@ classes_of units = record { cmp = nat_cmp; items = map class_of (numbered units)
 abbrev pub header_of : ℕ × Source → Header ℕ
 header_of unit = record { own = Some (class_of unit); «package» = unit.1.«package»; imports = unit.1.imports }
 
--- ---- types
-
--- An outside type is its text.
-abbrev pub type_of : {C : Type 0} → TypeReading C → ViewType C
-type_of (class_read class) = class_type class
-type_of (imported full []) = outside_type full
-type_of (imported full (byte ∷ rest)) = outside_type (full ++ dot ∷ byte ∷ rest)
-type_of (written text) = outside_type text
-type_of no_type = unread_type
-
-abbrev pub type_step : {C : Type 0} → Classes C → Header C → TypeName-F (ViewType C) → ViewType C
-type_step classes header (TypeName-F.Prim name) = primitive_type name
-type_step classes header (TypeName-F.Named name) = type_of (type_named classes header (cut name).first (cut name).rest)
-type_step classes header (TypeName-F.ArrayOf item) = array_type item
-type_step classes header TypeName-F.Void = void_type
-
--- a type as it is written in a file with this header
-abbrev pub type_in : {C : Type 0} → Classes C → Header C → TypeName → ViewType C
-type_in {C} classes header = fold-TypeName (ViewType C) (type_step classes header)
-
 -- ---- members
 
 abbrev pub field_in : Classes ℕ → ℕ × Source → ℕ × Member → Option (ViewField ℕ MemberKey)
-field_in classes unit (number, member.Field f) = Some (record {
+field_in classes unit (number, member.Field field) = Some (record {
   key = record { unit = unit.0; member = number };
   owner = unit.0;
-  name = f.name;
-  is_static = has f.words "static";
-  ty = type_in classes (header_of unit) f.ty;
+  name = field.name;
+  is_static = has field.words "static";
+  type = type_in classes (header_of unit) field.ty;
 })
 field_in classes unit numbered_member = None
 
 abbrev pub declaration_in : Classes ℕ → ℕ × Source → ℕ × Member → Option (ViewDeclaration ℕ MemberKey)
-declaration_in classes unit (number, member.Method m) = Some (record {
+declaration_in classes unit (number, member.Method method) = Some (record {
   key = record { unit = unit.0; member = number };
   owner = unit.0;
-  name = m.name;
-  arity = length m.params;
-  kind = if m.is_static then static_method else instance_method;
-  result = type_in classes (header_of unit) m.result;
+  name = method.name;
+  arity = length method.params;
+  kind = if method.is_static then static_method else instance_method;
+  result = type_in classes (header_of unit) method.result;
 })
-declaration_in classes unit (number, member.Ctor c) = Some (record {
+declaration_in classes unit (number, member.Ctor declared) = Some (record {
   key = record { unit = unit.0; member = number };
   owner = unit.0;
   name = [];
-  arity = length c.params;
+  arity = length declared.params;
   kind = constructor;
   result = void_type;
 })

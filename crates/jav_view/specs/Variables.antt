@@ -26,12 +26,13 @@ IsAbsent names name = HoldsOfNone (λ declared. declared ≡ name) names
 -- A variable is, in this order, the nearest local of this name, the parameter, the field of the own class (JLS 6.4.1). Of several
 -- parameters of one name it is the first.
 pub data ReadsVariable {C M : Type 0} (view : View C M) (place : Place C) (name : Name) : Found (Variable C M) → Type 0 where
-  nearest_local : {k : ℕ} → IsLast (λ declared. declared ≡ name) place.locals k name → ReadsVariable view place name (found (local_variable k))
-  first_parameter : {k : ℕ} → IsAbsent place.locals name → IsFirst (λ declared. declared ≡ name) place.params k name
-      → ReadsVariable view place name (found (parameter_variable k))
+  nearest_local : {number : ℕ} → IsLast (λ declared. declared ≡ name) place.locals number name
+      → ReadsVariable view place name (found (local_variable number))
+  first_parameter : {number : ℕ} → IsAbsent place.locals name → IsFirst (λ declared. declared ≡ name) place.params number name
+      → ReadsVariable view place name (found (parameter_variable number))
   nearest_field : {field : ViewField C M} → IsAbsent place.locals name → IsAbsent place.params name
       → ReadsField view place.class name (found field) → ReadsVariable view place name (found (field_variable field))
-  past : IsAbsent place.locals name → IsAbsent place.params name → ReadsField view place.class name outside
+  in_outside_class : IsAbsent place.locals name → IsAbsent place.params name → ReadsField view place.class name outside
       → ReadsVariable view place name outside
-  nowhere : IsAbsent place.locals name → IsAbsent place.params name → ReadsField view place.class name not_found
+  not_there : IsAbsent place.locals name → IsAbsent place.params name → ReadsField view place.class name not_found
       → ReadsVariable view place name not_found

@@ -28,7 +28,7 @@ pub record ViewField (C M : Type 0) : Type 0 where
   pub owner : C
   pub name : Name
   pub is_static : Bool
-  pub ty : ViewType C
+  pub type : ViewType C
 
 pub data DeclarationKind : Type 0 where
   instance_method : DeclarationKind

@@ -6,16 +6,42 @@
 
 ghost use Rattle.std.specs.Prelude.{ℕ};
 ghost use Rattle.mol_base.specs.declared.ident.Id.{Id};
-ghost use Rattle.jav_view.specs.Laws.{NamesAnswered, NamesCut, NamesDecided, TypesAnswered, UnitsViewed};
+ghost use Rattle.jav_view.specs.Laws.{NamesAnswered, NamesCut, NamesDecided, TypesAnswered, TypesCompared, UnitsViewed};
+ghost use Rattle.jav_view.specs.Standing.{AncestorsKnown, NamesStand, TypesStand};
 ghost use Rattle.jav_view.specs.UnitViews.{MemberKey};
 
-/// The laws of the rules: each has exactly one answer, over source files and over programs, which is what its function finds.
+/// The laws of the rules: each has exactly one answer, over source files and over programs, which is what its function finds. A type as
+/// written is what its parts read as.
 #[tactic(auto, using(crate::proofs::NamesAnswered::types_answered, crate::proofs::NamesAnswered::names_answered))]
 pub fn names_answered()
     ensures types_of_units { TypesAnswered ℕ }
     ensures names_of_units { NamesAnswered ℕ MemberKey }
     ensures types_of_programs { TypesAnswered Id }
     ensures names_of_programs { NamesAnswered Id Id }
+{}
+
+/// Whether two types are equal: the test, over source files and over programs, and that two equal types are one.
+#[tactic(auto, using(crate::proofs::EqualTypes::types_compared))]
+pub fn types_compared()
+    ensures of_units { TypesCompared ℕ }
+    ensures of_programs { TypesCompared Id }
+{}
+
+/// The laws of ancestors: those of a class are what its function says, classes of the view, and all that going up comes to.
+#[tactic(auto, using(crate::proofs::AncestorsFound::ancestors_known))]
+pub fn ancestors_known()
+    ensures of_units { AncestorsKnown ℕ MemberKey }
+    ensures of_programs { AncestorsKnown Id Id }
+{}
+
+/// What a name is found to be stands in the view: classes, fields and declarations in its lists, and the owner of a member is the class
+/// that was asked or an ancestor of it.
+#[tactic(auto, using(crate::proofs::FoundNames::types_stand, crate::proofs::FoundNames::names_stand))]
+pub fn found_stands()
+    ensures types_of_units { TypesStand ℕ }
+    ensures names_of_units { NamesStand ℕ MemberKey }
+    ensures types_of_programs { TypesStand Id }
+    ensures names_of_programs { NamesStand Id Id }
 {}
 
 /// The same of what may be found, outside or not found: it is exactly one of the three.
@@ -25,8 +51,8 @@ pub fn names_decided()
     ensures of_programs { NamesDecided Id Id }
 {}
 
-/// The laws of the view of source files: it ascends by its keys, so that the rules have exactly one answer over it, and its types are
-/// what types as written read as.
+/// The laws of the view of source files: it ascends by its keys, so that the rules have exactly one answer over it, and the class of
+/// each file is one of it, so that what names are found to be stands in it.
 #[tactic(auto, using(crate::proofs::UnitsViewed::units_viewed))]
 pub fn units_viewed()
     ensures { UnitsViewed }

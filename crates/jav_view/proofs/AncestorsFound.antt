@@ -1,0 +1,186 @@
+-- The ancestors of a class: what their function says, that they are classes of the view, and what going up leads to.
+use Rattle.std.proofs.Common.{◌≡◌, ◌≢◌, ◌⊎◌, inl, inr, ℕ, zero, suc, true, List, [], ◌∷◌, drop, length, Contains, refl, sym, ◌∙◌, ap, subst}
+use Rattle.std.specs.Bool.{Decides}
+use Rattle.jav_view.specs.Ancestors.{HasClass, Extends, Follows, Way, IsAncestor, Leads}
+use Rattle.jav_view.specs.LookUps.{is_met, way_from, way, ancestors, is_ancestor}
+use Rattle.jav_view.specs.Standing.{AncestorsKnown}
+use Rattle.jav_view.specs.Views.{AreOrdered, View}
+use Rattle.jav_view.proofs.Lists.{stands_first, stands_later, stands_where, stands_nowhere}
+use Rattle.jav_view.proofs.Ways.{is_met-decides, one_above, way-is, one_way}
+
+module _ {C M : Type 0} (view : View C M) where
+  -- ---- the parts of a way
+
+  -- it begins with its class
+  way_from-first : (steps : ℕ) (met : List C) (class : C) → way_from steps view met class ≡ class ∷ drop 1 (way_from steps view met class)
+  way_from-first zero met class = refl
+  way_from-first (suc steps) met class = refl
+
+  pub follows-first : {met : List C} {class : C} {classes : List C} → Follows view met class classes → (rest : List C) × (classes ≡ class ∷ rest)
+  follows-first (Follows.up {way = above_it} extends new more) = (above_it, refl)
+  follows-first (Follows.end ends) = ([], refl)
+
+  -- a step up, and the way from there, where something stands after its class
+  next_up : {met : List C} {class : C} {classes rest : List C} (above : C) → Follows view met class classes → classes ≡ class ∷ rest → Contains rest above
+      → (next : C) × Extends view class next × (¬ Contains (class ∷ met) next) × Follows view (class ∷ met) next rest
+  next_up above (Follows.up {met = met} {class = class} {above = next} extends new more) is stands =
+      (next, extends, new, subst (Follows view (class ∷ met) next) (ap (drop 1) is) more)
+  next_up above (Follows.end ends) is stands =
+      absurd (stands_nowhere above (subst (λ classes. Contains classes above) (sym (ap (drop 1) is)) stands))
+
+  -- ---- what stands on it
+
+  -- each class on it but for the first is one of the view
+  follows-stand : {met : List C} {class : C} {classes : List C} → Follows view met class classes → (x : C) → Contains classes x
+      → (class ≡ x) ⊎ HasClass view.classes x
+  follows-stand (Follows.up {way = above_it} {class = class} {above = above} extends new more) x stands =
+      by_place (stands_where class x above_it stands) (follows-stand more x) where
+        by_later : (above ≡ x) ⊎ HasClass view.classes x → (class ≡ x) ⊎ HasClass view.classes x
+        by_later (inl same) = inr (subst (HasClass view.classes) same extends.stands)
+        by_later (inr has) = inr has
+
+        by_place : (class ≡ x) ⊎ Contains above_it x → (Contains above_it x → (above ≡ x) ⊎ HasClass view.classes x)
+            → (class ≡ x) ⊎ HasClass view.classes x
+        by_place (inl same) rest = inl same
+        by_place (inr later) rest = by_later (rest later)
+  follows-stand (Follows.end {class = class} ends) x stands = by_place (stands_where class x [] stands) where
+    by_place : (class ≡ x) ⊎ Contains [] x → (class ≡ x) ⊎ HasClass view.classes x
+    by_place (inl same) = inl same
+    by_place (inr later) = absurd (stands_nowhere x later)
+
+  -- no class on it was met before
+  follows-new : {met : List C} {class : C} {classes : List C} → Follows view met class classes → ¬ Contains met class → (x : C) → Contains classes x
+      → ¬ Contains met x
+  follows-new (Follows.up {met = met} {way = above_it} {class = class} extends new more) first x stands =
+      by_place (stands_where class x above_it stands) (follows-new more new x) where
+        by_place : (class ≡ x) ⊎ Contains above_it x → (Contains above_it x → ¬ Contains (class ∷ met) x) → ¬ Contains met x
+        by_place (inl same) rest = subst (λ c. ¬ Contains met c) same first
+        by_place (inr later) rest = λ before. rest later (stands_later class x met before)
+  follows-new (Follows.end {met = met} {class = class} ends) first x stands = by_place (stands_where class x [] stands) where
+    by_place : (class ≡ x) ⊎ Contains [] x → ¬ Contains met x
+    by_place (inl same) = subst (λ c. ¬ Contains met c) same first
+    by_place (inr later) = absurd (stands_nowhere x later)
+
+  -- going up leads to each class on it
+  follows-leads : {met : List C} {class : C} {classes : List C} → Follows view met class classes → (x : C) → Contains classes x
+      → (class ≡ x) ⊎ Leads view class x
+  follows-leads (Follows.up {way = above_it} {class = class} {above = above} extends new more) x stands =
+      by_place (stands_where class x above_it stands) (follows-leads more x) where
+        by_later : (above ≡ x) ⊎ Leads view above x → (class ≡ x) ⊎ Leads view class x
+        by_later (inl same) = inr (Leads.last_step (subst (Extends view class) same extends))
+        by_later (inr leads) = inr (Leads.step extends leads)
+
+        by_place : (class ≡ x) ⊎ Contains above_it x → (Contains above_it x → (above ≡ x) ⊎ Leads view above x) → (class ≡ x) ⊎ Leads view class x
+        by_place (inl same) rest = inl same
+        by_place (inr later) rest = by_later (rest later)
+  follows-leads (Follows.end {class = class} ends) x stands = by_place (stands_where class x [] stands) where
+    by_place : (class ≡ x) ⊎ Contains [] x → (class ≡ x) ⊎ Leads view class x
+    by_place (inl same) = inl same
+    by_place (inr later) = absurd (stands_nowhere x later)
+
+  -- ---- ancestors
+
+  pub ancestors-stand : (class above : C) → IsAncestor view class above → HasClass view.classes above
+  ancestors-stand class above is =
+      let up = next_up above is.way refl is.met in
+      by_place up.0 up.1 (follows-stand up.3 above is.met) where
+        by_place : (next : C) → Extends view class next → (next ≡ above) ⊎ HasClass view.classes above → HasClass view.classes above
+        by_place next extends (inl same) = subst (HasClass view.classes) same extends.stands
+        by_place next extends (inr has) = has
+
+  pub ancestors-never_itself : (class : C) → ¬ IsAncestor view class class
+  ancestors-never_itself class is =
+      let up = next_up class is.way refl is.met in
+      follows-new up.3 up.2 class is.met (stands_first class [])
+
+  pub ancestors-led_to : (class above : C) → IsAncestor view class above → Leads view class above
+  ancestors-led_to class above is =
+      let up = next_up above is.way refl is.met in
+      by_place up.0 up.1 (follows-leads up.3 above is.met) where
+        by_place : (next : C) → Extends view class next → (next ≡ above) ⊎ Leads view next above → Leads view class above
+        by_place next extends (inl same) = Leads.last_step (subst (Extends view class) same extends)
+        by_place next extends (inr leads) = Leads.step extends leads
+
+module _ {C M : Type 0} (view : View C M) (ordered : AreOrdered view.classes) where
+  -- what the superclass of a class on the way is: it was met before, or is on the way too
+  closed : {met : List C} {class : C} {classes : List C} → Follows view met class classes → (x above : C) → Contains classes x → Extends view x above
+      → Contains met above ⊎ Contains classes above
+  closed (Follows.up {met = met} {way = above_it} {class = class} {above = next} extends new more) x above stands extends-x =
+      by_place (stands_where class x above_it stands) (λ later. closed more x above later extends-x) where
+        by_later : Contains (class ∷ met) above ⊎ Contains above_it above → Contains met above ⊎ Contains (class ∷ above_it) above
+        by_later (inl before) = by_met (stands_where class above met before) where
+          by_met : (class ≡ above) ⊎ Contains met above → Contains met above ⊎ Contains (class ∷ above_it) above
+          by_met (inl same) = inr (subst (Contains (class ∷ above_it)) same (stands_first class above_it))
+          by_met (inr earlier) = inl earlier
+        by_later (inr later) = inr (stands_later class above above_it later)
+
+        at_next : class ≡ x → Contains above_it above
+        at_next same =
+            let is_next : next ≡ above = one_above view ordered x next above (subst (λ c. Extends view c next) same extends) extends-x in
+            let first = follows-first view more in
+            subst (Contains above_it) is_next (subst (λ classes. Contains classes next) (sym first.1) (stands_first next first.0))
+
+        by_place : (class ≡ x) ⊎ Contains above_it x → (Contains above_it x → Contains (class ∷ met) above ⊎ Contains above_it above)
+            → Contains met above ⊎ Contains (class ∷ above_it) above
+        by_place (inl same) rest = inr (stands_later class above above_it (at_next same))
+        by_place (inr later) rest = by_later (rest later)
+  closed (Follows.end {met = met} {class = class} ends) x above stands extends-x = by_place (stands_where class x [] stands) where
+    by_met : (class ≡ above) ⊎ Contains met above → Contains met above ⊎ Contains (class ∷ []) above
+    by_met (inl same) = inr (subst (Contains (class ∷ [])) same (stands_first class []))
+    by_met (inr earlier) = inl earlier
+
+    by_place : (class ≡ x) ⊎ Contains [] x → Contains met above ⊎ Contains (class ∷ []) above
+    by_place (inl same) = by_met (stands_where class above met (ends above (subst (λ c. Extends view c above) (sym same) extends-x)))
+    by_place (inr later) = absurd (stands_nowhere x later)
+
+  -- what a set of classes that is closed so has
+  leads-in : (classes : List C) → ((x above : C) → Contains classes x → Extends view x above → Contains classes above) → (class top : C)
+      → Leads view class top → Contains classes class → Contains classes top
+  leads-in classes each class top (Leads.last_step extends) stands = each class top stands extends
+  leads-in classes each class top (Leads.step {above = above} extends leads) stands =
+      leads-in classes each above top leads (each class above stands extends)
+
+  way-ancestors : (class : C) → way view class ≡ class ∷ ancestors view class
+  way-ancestors class = way_from-first view (length view.classes.items) [] class
+
+  pub ancestors-reached : (class above : C) → Leads view class above → above ≢ class → IsAncestor view class above
+  ancestors-reached class above leads differs = by_place (stands_where class above (ancestors view class) on_way) where
+    whole : Way view class (class ∷ ancestors view class)
+    whole = subst (Way view class) (way-ancestors class) (way-is view ordered class)
+
+    each : (x up : C) → Contains (class ∷ ancestors view class) x → Extends view x up → Contains (class ∷ ancestors view class) up
+    each x up stands extends = by_met (closed whole x up stands extends) where
+      by_met : Contains [] up ⊎ Contains (class ∷ ancestors view class) up → Contains (class ∷ ancestors view class) up
+      by_met (inl before) = absurd (stands_nowhere up before)
+      by_met (inr there) = there
+
+    on_way : Contains (class ∷ ancestors view class) above
+    on_way = leads-in (class ∷ ancestors view class) each class above leads (stands_first class (ancestors view class))
+
+    by_place : (class ≡ above) ⊎ Contains (ancestors view class) above → IsAncestor view class above
+    by_place (inl same) = absurd (differs (sym same))
+    by_place (inr later) = record { ancestors = ancestors view class; way = whole; met = later }
+
+  pub is_ancestor-decides : (class above : C) → Decides (is_ancestor view class above) (IsAncestor view class above)
+  is_ancestor-decides class above = (there, at) where
+    there : is_ancestor view class above ≡ true → IsAncestor view class above
+    there is = record {
+      ancestors = ancestors view class;
+      way = subst (Way view class) (way-ancestors class) (way-is view ordered class);
+      met = (is_met-decides view.classes ordered (ancestors view class) above).0 is;
+    }
+
+    at : IsAncestor view class above → is_ancestor view class above ≡ true
+    at is =
+        let same : way view class ≡ class ∷ is.ancestors = one_way view ordered (way-is view ordered class) is.way in
+        ap (λ classes. is_met view.classes (drop 1 classes) above) same
+        ∙ (is_met-decides view.classes ordered is.ancestors above).1 is.met
+
+pub ancestors_known : (C M : Type 0) → AncestorsKnown C M
+ancestors_known C M = record {
+  tested = λ view class above ordered. is_ancestor-decides view ordered class above;
+  stand = λ view class above is. ancestors-stand view class above is;
+  never_itself = λ view class is. ancestors-never_itself view class is;
+  led_to = λ view class above is. ancestors-led_to view class above is;
+  reached = λ view class above ordered leads differs. ancestors-reached view ordered class above leads differs;
+}

@@ -1,0 +1,89 @@
+-- That what is found stands in the view, and where; and what the ancestors of a class are.
+use Rattle.std.specs.Prelude.{◌≡◌, ◌≢◌, ◌⊎◌, ℕ, Some, Contains, slice_get}
+use Rattle.std.specs.Bool.{Decides}
+use Rattle.jav_view.specs.Ancestors.{HasClass, Extends, IsAncestor, Leads}
+use Rattle.jav_view.specs.DottedNames.{Name, Names}
+use Rattle.jav_view.specs.Leftmost.{leftmost_variable, leftmost_class, ReadsLeftmost}
+use Rattle.jav_view.specs.LookUps.{is_ancestor}
+use Rattle.jav_view.specs.Members.{IsMethod, IsConstructorOf, ReadsField, ReadsMethod, ReadsSuperMethod, Constructor, declared_constructor, default_constructor, ReadsConstructor, ReadsSuperConstructor}
+use Rattle.jav_view.specs.OnValues.{StaticType, member, static_member, ReadsFieldOn, ReadsMethodOn, ReadsStaticField, ReadsStaticMethod}
+use Rattle.jav_view.specs.Types.{Header, OwnStands, class_read, ReadsSimple, ReadsType}
+use Rattle.jav_view.specs.Variables.{Place, Variable, local_variable, parameter_variable, field_variable, ReadsVariable}
+use Rattle.jav_view.specs.Views.{ViewField, ViewDeclaration, Classes, AreOrdered, View, found}
+
+-- ---- ancestors
+
+-- The ancestors of a class are what its function says. They are classes of the view, the class is none of them, and they are all that
+-- going up comes to, but for the class itself.
+pub record AncestorsKnown (C M : Type 0) : Type 0 where
+  pub tested : (view : View C M) (class above : C) → AreOrdered view.classes
+      → Decides (is_ancestor view class above) (IsAncestor view class above)
+  pub stand : (view : View C M) (class above : C) → IsAncestor view class above → HasClass view.classes above
+  pub never_itself : (view : View C M) (class : C) → ¬ IsAncestor view class class
+  pub led_to : (view : View C M) (class above : C) → IsAncestor view class above → Leads view class above
+  pub reached : (view : View C M) (class above : C) → AreOrdered view.classes → Leads view class above → above ≢ class
+      → IsAncestor view class above
+
+-- ---- what is found
+
+-- A field of the view with this name, of the class or an ancestor.
+pub record IsFieldOf {C M : Type 0} (view : View C M) (class : C) (name : Name) (field : ViewField C M) : Type 0 where
+  pub stands : Contains view.fields field
+  pub named : field.name ≡ name
+  pub owned : (field.owner ≡ class) ⊎ IsAncestor view class field.owner
+
+-- A declaration of the view of a method with this name and number of parameters, in the class or an ancestor.
+pub record IsMethodOf {C M : Type 0} (view : View C M) (class : C) (name : Name) (arity : ℕ) (declaration : ViewDeclaration C M)
+    : Type 0 where
+  pub stands : Contains view.declarations declaration
+  pub is_method : IsMethod name arity declaration
+  pub owned : (declaration.owner ≡ class) ⊎ IsAncestor view class declaration.owner
+
+-- A constructor of the class: a declaration of the view, or the default one of the class.
+pub data IsConstructorIn {C M : Type 0} (view : View C M) (class : C) (arity : ℕ) : Constructor C M → Type 0 where
+  is_declared : {declaration : ViewDeclaration C M} → Contains view.declarations declaration → IsConstructorOf class arity declaration
+      → IsConstructorIn view class arity (declared_constructor declaration)
+  is_default : arity ≡ 0 → IsConstructorIn view class arity (default_constructor class)
+
+-- A variable of this name: a local or a parameter of the place, or a field of the view.
+pub data IsVariableAt {C M : Type 0} (view : View C M) (place : Place C) (name : Name) : Variable C M → Type 0 where
+  is_local : {number : ℕ} → slice_get place.locals number ≡ Some name → IsVariableAt view place name (local_variable number)
+  is_parameter : {number : ℕ} → slice_get place.params number ≡ Some name → IsVariableAt view place name (parameter_variable number)
+  is_field : {field : ViewField C M} → IsFieldOf view place.class name field → IsVariableAt view place name (field_variable field)
+
+-- What names are found to be stands among the classes, where the file's own class does.
+pub record TypesStand (C : Type 0) : Type 0 where
+  pub simple : (classes : Classes C) (header : Header C) (name : Name) (class : C) → OwnStands classes header
+      → ReadsSimple classes header name (class_read class) → HasClass classes class
+  pub types : (classes : Classes C) (header : Header C) (first : Name) (rest : Names) (class : C) → OwnStands classes header
+      → ReadsType classes header first rest (class_read class) → HasClass classes class
+
+-- And what is found of members and variables stands in the view.
+pub record NamesStand (C M : Type 0) : Type 0 where
+  pub fields : (view : View C M) (class : C) (name : Name) (field : ViewField C M)
+      → ReadsField view class name (found field) → IsFieldOf view class name field
+  pub methods : (view : View C M) (class : C) (name : Name) (arity : ℕ) (declaration : ViewDeclaration C M)
+      → ReadsMethod view class name arity (found declaration) → IsMethodOf view class name arity declaration
+  pub super_methods : (view : View C M) (class : C) (name : Name) (arity : ℕ) (declaration : ViewDeclaration C M)
+      → ReadsSuperMethod view class name arity (found declaration)
+      → (above : C) × Extends view class above × IsMethodOf view above name arity declaration
+  pub constructors : (view : View C M) (class : C) (arity : ℕ) (constructor : Constructor C M)
+      → ReadsConstructor view class arity (found constructor) → IsConstructorIn view class arity constructor
+  pub super_constructors : (view : View C M) (class : C) (arity : ℕ) (constructor : Constructor C M)
+      → ReadsSuperConstructor view class arity (found constructor)
+      → (above : C) × Extends view class above × IsConstructorIn view above arity constructor
+  pub variables : (view : View C M) (place : Place C) (name : Name) (variable : Variable C M)
+      → ReadsVariable view place name (found variable) → IsVariableAt view place name variable
+  pub leftmost_variables : (view : View C M) (place : Place C) (first : Name) (rest : Names) (variable : Variable C M)
+      → ReadsLeftmost view place first rest (leftmost_variable variable) → IsVariableAt view place first variable
+  pub leftmost_classes : (view : View C M) (place : Place C) (first : Name) (rest : Names) (class : C) (count : ℕ)
+      → OwnStands view.classes place.header → ReadsLeftmost view place first rest (leftmost_class class count) → HasClass view.classes class
+  pub fields_on : (view : View C M) (name : Name) (type : StaticType C) (field : ViewField C M)
+      → ReadsFieldOn view name type (member field) ⊎ ReadsFieldOn view name type (static_member field) → Contains view.fields field
+  pub methods_on : (view : View C M) (name : Name) (arity : ℕ) (type : StaticType C) (declaration : ViewDeclaration C M)
+      → ReadsMethodOn view name arity type (member declaration) ⊎ ReadsMethodOn view name arity type (static_member declaration)
+      → Contains view.declarations declaration
+  pub static_fields : (view : View C M) (class : C) (name : Name) (field : ViewField C M)
+      → ReadsStaticField view class name (Some field) → IsFieldOf view class name field
+  pub static_methods : (view : View C M) (class : C) (name : Name) (arity : ℕ) (declaration : ViewDeclaration C M)
+      → ReadsStaticMethod view class name arity (Some declaration) → IsMethodOf view class name arity declaration
