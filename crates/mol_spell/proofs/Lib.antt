@@ -1,0 +1,10 @@
+pub mod ProgramsViewed
+pub mod PlainForms
+pub mod FirstFaults
+pub mod ReadEquations
+pub mod ExampleShop
+pub mod ExampleDesk
+pub mod ExampleCycle
+pub mod ExampleBodies
+pub mod ExampleSays
+pub mod ExampleBlocks

@@ -1,0 +1,26 @@
+-- The laws of what sources read as.
+use Rattle.std.specs.Prelude.{◌≡◌, ℕ}
+use Rattle.jav_view.specs.Views.{IsOrdered}
+use Rattle.mol_spell.specs.FaultKinds.{FaultKind}
+use Rattle.mol_spell.specs.Files.{Files}
+use Rattle.mol_spell.specs.ProgramViews.{program_view}
+use Rattle.mol_spell.specs.ReadAs.{IsPlain, HoldsWhatIsSaid}
+use Rattle.mol_spell.specs.ResolveFaults.{HavePathsApart, IsFirstFault}
+use Rattle.mol_table.specs.Program.{Program}
+use Rattle.mol_table.specs.Rules.{IsProgram}
+
+-- The view of a program ascends by its keys, so that the rules on names have exactly one answer over it.
+pub record ProgramsViewed : Type 0 where
+  pub ordered : (program : Program) → IsOrdered (program_view program)
+
+-- Of files with different paths at most one fault is the first.
+pub record FirstFaults : Type 0 where
+  pub unique : (files : Files) → HavePathsApart files → (kind other : FaultKind) (number second at place : ℕ)
+      → IsFirstFault files kind number at → IsFirstFault files other second place
+      → (kind ≡ other) × (number ≡ second) × (at ≡ place)
+
+-- A program in plain form holds what the files say, and files read as at most one program in plain form.
+pub record PlainForms : Type 0 where
+  pub holds : (files : Files) (program : Program) → IsPlain files program → HoldsWhatIsSaid files program
+  pub unique : (files : Files) (first second : Program) → IsProgram first → IsProgram second → IsPlain files first
+      → IsPlain files second → first ≡ second

@@ -1,0 +1,25 @@
+//! What sources read as: the program that source files are, with each name in them by identity, and the faults for which they are none.
+//!
+//! The definitions stand in `specs/`, and the contracts of the crates above cite them. The calls here compute nothing: each carries
+//! laws of the definitions.
+#![tactic(auto)]
+
+ghost use Rattle.mol_spell.specs.Laws.{FirstFaults, PlainForms, ProgramsViewed};
+
+/// The law of the view of a program: it ascends by its keys, so that the rules on names have exactly one answer over it.
+#[tactic(auto, using(crate::proofs::ProgramsViewed::programs_viewed))]
+pub fn programs_viewed()
+    ensures { ProgramsViewed }
+{}
+
+/// The law of the first fault: of files with different paths at most one fault is the first.
+#[tactic(auto, using(crate::proofs::FirstFaults::first_faults))]
+pub fn first_faults()
+    ensures { FirstFaults }
+{}
+
+/// The laws of plain form: a program in it holds what the files say, and files read as at most one such program.
+#[tactic(auto, using(crate::proofs::PlainForms::plain_forms))]
+pub fn plain_forms()
+    ensures { PlainForms }
+{}
