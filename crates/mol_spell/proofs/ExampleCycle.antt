@@ -1,8 +1,8 @@
 -- Two classes that extend each other.
-use Rattle.std.proofs.Common.{◌≡◌, ℕ, List, [], ◌∷◌, Option, Some, None, codes, refl, ap, arith}
+use Rattle.std.proofs.Common.{◌≡◌, ℕ, List, [], ◌∷◌, Some, codes, refl, ap, arith}
 use Rattle.jav_tree.specs.declared.unit.Unit.{Unit as Source}
-use Rattle.jav_view.specs.Ancestors.{Extends, Leads, last_step, step}
-use Rattle.jav_view.specs.UnitViews.{MemberKey, class_of, classes_of, header_of, view_of}
+use Rattle.jav_view.specs.Ancestors.{Extends, last_step, step}
+use Rattle.jav_view.specs.UnitViews.{MemberKey, class_of, classes_of, header_of}
 use Rattle.jav_view.specs.Views.{class_type, View}
 use Rattle.jav_view.proofs.ExampleFiles.{named, file, with_superclasses, view-seen}
 use Rattle.jav_view.proofs.WrittenTypes.{type_in-Named}

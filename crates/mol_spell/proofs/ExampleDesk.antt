@@ -1,6 +1,6 @@
 -- What names read as in the class `shop.Desk`, which extends nothing. It has the fields `int i`, `static int s` and `int[] a`, and no
 -- other class is there.
-use Rattle.std.proofs.Common.{◌≡◌, ℕ, ◌+◌, true, false, List, [], ◌∷◌, Option, Some, None, codes, refl}
+use Rattle.std.proofs.Common.{◌≡◌, ℕ, ◌+◌, true, false, [], ◌∷◌, Some, None, codes, refl}
 use Prim.Native.String.{String}
 use Rattle.std.specs.Ordering.{nat_cmp}
 use Rattle.mol_base.specs.declared.ident.Id.{Id}

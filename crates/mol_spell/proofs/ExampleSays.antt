@@ -1,17 +1,16 @@
 -- Words of a program for one text: which of them says what another says, and static types of worked expressions.
-use Rattle.std.proofs.Common.{◌≡◌, ℕ, true, List, [], ◌∷◌, Option, Some, None, codes, refl, sym, ap, ◌∙◌}
+use Rattle.std.proofs.Common.{◌≡◌, ℕ, [], ◌∷◌, codes, sym, ap, ◌∙◌}
 use Rattle.mol_base.specs.declared.ident.Id.{Id}
 use Rattle.mol_table.specs.Program.{Program}
 use Rattle.mol_values.specs.declared.iexpr.IExpr.{IExpr}
 use Rattle.mol_values.specs.declared.iexpr.IExpr.TheFolds.{fold-roll-IExpr}
 use Rattle.mol_values.specs.declared.iexpr.IExpr.TheOpen.{IExpr-F}
 use Rattle.mol_values.specs.declared.iexpr.IExpr.TheVariants as exprs
-use Rattle.mol_values.specs.declared.itype.IType.{IType}
 use Rattle.mol_values.specs.declared.itype.IType.TheFolds.{fold-roll-IType}
 use Rattle.mol_values.specs.declared.itype.IType.TheOpen.{IType-F}
 use Rattle.mol_values.specs.declared.itype.IType.TheVariants as types
 use Rattle.jav_view.specs.DottedNames.{Name}
-use Rattle.jav_view.specs.OnValues.{StaticType, primitive_value, outside_value, class_value, array_value}
+use Rattle.jav_view.specs.OnValues.{StaticType, primitive_value, class_value, array_value}
 use Rattle.jav_view.specs.Views.{ViewType, primitive_type, array_type}
 use Rattle.mol_spell.specs.Says.{OutsideText, in_full, of_import, with_field, type_text, type_text_step, expr_text, expr_text_step, argument_text_step, SaysType, text_of_type, Says, one_field, as_own, as_static, on_this, text_of_expr}
 use Rattle.mol_spell.specs.StaticTypes as static

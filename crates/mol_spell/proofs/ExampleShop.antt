@@ -1,10 +1,8 @@
 -- Three small files of a shop: how what stands in them is numbered, and what the bodies of `pay` in `Till` read as. `Till` extends
 -- `Desk`, and `Cart` extends nothing.
-use Rattle.std.proofs.Common.{◌≡◌, ℕ, false, List, [], ◌∷◌, map, Option, Some, None, codes, refl, ap, ◌∙◌}
+use Rattle.std.proofs.Common.{◌≡◌, ℕ, false, [], ◌∷◌, Some, None, codes, refl, ap}
 use Prim.Native.String.{String}
 use Rattle.mol_base.specs.declared.ident.Id.{Id}
-use Rattle.mol_values.specs.declared.iexpr.Argument.{Argument}
-use Rattle.mol_values.specs.declared.iexpr.IExpr.{IExpr}
 use Rattle.mol_values.specs.declared.iexpr.IExpr.TheVariants as exprs
 use Rattle.jav_tree.specs.Expressions.{expr_at}
 use Rattle.jav_tree.specs.declared.expr.Expr.{Expr}
@@ -16,7 +14,7 @@ use Rattle.jav_view.proofs.ExampleReadings.{cart, desk, till, shop, last_extends
 use Rattle.mol_spell.specs.FaultKinds.{unknown_member, receiver_type}
 use Rattle.mol_spell.specs.Files.{File, Files}
 use Rattle.mol_spell.specs.Locals.{Locals, no_locals, declare}
-use Rattle.mol_spell.specs.Numbering.{Entity, class_entity, member_entity, method_entity, param_entity, order_by, in_order, id_by, ids_by}
+use Rattle.mol_spell.specs.Numbering.{class_entity, member_entity, method_entity, param_entity, order_by, in_order, id_by, ids_by}
 use Rattle.mol_spell.specs.Outcomes.{fine, refused}
 use Rattle.mol_spell.specs.Readers.{Reader}
 use Rattle.mol_spell.specs.ReadTrees.{read_expr}

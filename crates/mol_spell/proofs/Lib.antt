@@ -1,6 +1,7 @@
 pub mod ProgramsViewed
 pub mod PlainForms
 pub mod FirstFaults
+pub mod NumbersApart
 pub mod ReadEquations
 pub mod ExampleShop
 pub mod ExampleDesk
@@ -8,3 +9,7 @@ pub mod ExampleCycle
 pub mod ExampleBodies
 pub mod ExampleSays
 pub mod ExampleBlocks
+pub mod ExampleChanges
+pub mod ExampleFaults
+pub mod ExampleProgram
+pub mod ExampleFile

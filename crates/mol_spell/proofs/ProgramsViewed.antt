@@ -1,5 +1,5 @@
 -- The view of a program is in the order of its keys.
-use Rattle.std.proofs.Common.{◌≡◌, ℕ, Bool, true, false, List, [], ◌∷◌, Option, Some, None, option_map, filter_map, if◌then◌else◌, refl, sym, ◌∙◌, ap, subst, Ordering, Less, Equal, Greater}
+use Rattle.std.proofs.Common.{◌≡◌, Bool, true, false, List, [], ◌∷◌, Option, Some, None, option_map, filter_map, if◌then◌else◌, refl, sym, ◌∙◌, ap, subst, Ordering, Less, Equal, Greater}
 use Rattle.std.specs.Prelude.{T, ◌&&◌}
 use Rattle.std.specs.FinMap.{FinMap, entries, entries_sorted, is_sorted}
 use Rattle.std.specs.FinMap.Entries.{below_all}

@@ -1,15 +1,30 @@
--- How the expressions of a tree are read, one by one: each from how its parts are read.
-use Rattle.std.proofs.Common.{◌≡◌, ℕ, List, [], ◌∷◌, map, Option, Some, None, ap, ◌∙◌, refl}
-use Rattle.jav_tree.proofs.ExpressionFolds.{ExprFold, fold-placed, fold-Lit, fold-This, fold-Name, fold-Dot, fold-Call, fold-SuperCall, fold-New, fold-Index, fold-Paren}
+-- How expressions, statements and types are read, one by one: each from how its parts are read.
+use Rattle.std.proofs.Common.{◌≡◌, ℕ, List, [], ◌∷◌, map, Option, Some, None, ap, sym, ◌∙◌}
+use Rattle.jav_tree.proofs.ExpressionFolds.{ExprFold, fold-placed, fold-Lit, fold-This, fold-Name, fold-Dot, fold-Call, fold-Index, fold-Paren}
+use Rattle.jav_tree.proofs.StatementFolds.{StmtFold, folded_node, folded_stmt, fold-node-Let, fold-node-Return, fold-block, fold-stmt}
+use Rattle.jav_tree.specs.Blocks.{block_of}
 use Rattle.jav_tree.specs.Expressions.{expr_at}
 use Rattle.jav_tree.specs.declared.expr.Expr.{Expr}
 use Rattle.jav_tree.specs.declared.expr.ExprNode.TheOpen.{ExprNode-F}
 use Rattle.jav_tree.specs.declared.expr.ExprNode.TheVariants as node
-use Rattle.jav_tree.specs.declared.types.TypeName.{TypeName}
+use Rattle.jav_tree.specs.declared.stmt.Else.TheOpen.{StmtNode-F}
+use Rattle.jav_tree.specs.declared.stmt.Let.{Let}
+use Rattle.jav_tree.specs.declared.stmt.Stmt.{Stmt}
+use Rattle.jav_tree.specs.declared.stmt.StmtNode.{StmtNode}
+use Rattle.jav_tree.specs.declared.stmt.StmtNode.TheVariants as stmt_node
+use Rattle.jav_tree.specs.declared.types.TypeName.TheFolds.{fold-roll-TypeName}
+use Rattle.jav_tree.specs.declared.types.TypeName.TheOpen.{TypeName-F}
+use Rattle.jav_tree.specs.declared.types.TypeName.TheVariants as types
 use Rattle.jav_view.specs.DottedNames.{Name}
+use Rattle.mol_values.specs.declared.iblock.IBlock.{IBlock}
+use Rattle.mol_values.specs.declared.iblock.IElse.{IElse}
+use Rattle.mol_values.specs.declared.itype.IType.{IType}
 use Rattle.mol_spell.specs.Locals.{Locals}
 use Rattle.mol_spell.specs.Outcomes.{mapped}
 use Rattle.mol_spell.specs.Readers.{Reader}
+use Rattle.mol_spell.specs.ReadStatements as statements
+use Rattle.mol_spell.specs.ReadStatements.{ReadsTo, ReadNode, ReadStatement, block_reading}
+use Rattle.mol_spell.specs.ReadTypes.{type_step, type_tree, primitive_tree}
 use Rattle.mol_spell.specs.ReadTrees.{Meant, Reading, node_step, expr_step, reading, read_expr}
 
 module _ {C M : Type 0} (reader : Reader C M) where
@@ -63,3 +78,48 @@ module _ {C M : Type 0} (reader : Reader C M) where
   pub expr-read : (locals : Locals C) (e : Expr) (part : Reading C) → reading reader e ≡ part
       → read_expr reader locals e ≡ mapped (λ (value : Meant C). value.tree) (part.means locals None)
   expr-read locals e part is = ap (λ (part : Reading C). mapped (λ (value : Meant C). value.tree) (part.means locals None)) is
+
+  -- ---- types
+
+  pub tree-Prim : (text : Name) → type_tree reader (types.Prim text) ≡ primitive_tree text
+  tree-Prim text = ap (type_tree reader) (sym (types.rolls-Prim text)) ∙ fold-roll-TypeName (Option IType) (type_step reader) (TypeName-F.Prim text)
+
+  -- ---- statements
+
+  abbrev statement : StmtFold
+  statement = record {
+    Other = ReadsTo C IElse;
+    Node = ℕ → ReadsTo C ReadNode;
+    Whole = ReadsTo C IBlock;
+    Line = ReadsTo C ReadStatement;
+    of_else = statements.else_step reader;
+    of_block = statements.block_step reader;
+    of_stmt = statements.stmt_step reader;
+  }
+
+  -- a statement without comments, once its parts are read
+  abbrev pub line_at : ℕ → StmtNode-F (ReadsTo C IElse) (ℕ → ReadsTo C ReadNode) (ReadsTo C IBlock) (ReadsTo C ReadStatement)
+      → ReadsTo C ReadStatement
+  line_at at parts = statements.stmt_step reader (record { notes = []; at = at; node = statements.node_step reader parts })
+
+  abbrev pub stmt_reading : Stmt → ReadsTo C ReadStatement
+  stmt_reading = folded_stmt statement (statements.node_step reader)
+
+  line : (at : ℕ) (made : StmtNode) (part : ℕ → ReadsTo C ReadNode) → folded_node statement (statements.node_step reader) made ≡ part
+      → stmt_reading (record { notes = []; at = at; node = made })
+      ≡ statements.stmt_step reader (record { notes = []; at = at; node = part })
+  line at made part is = fold-stmt statement (statements.node_step reader) [] at made
+      ∙ ap (λ (part : ℕ → ReadsTo C ReadNode). statements.stmt_step reader (record { notes = []; at = at; node = part })) is
+
+  pub reads-Let : (at : ℕ) (declared : Let) → stmt_reading (record { notes = []; at = at; node = stmt_node.Let declared })
+      ≡ line_at at (StmtNode-F.Let declared)
+  reads-Let at declared = line at (stmt_node.Let declared) _ (fold-node-Let statement (statements.node_step reader) declared)
+
+  pub reads-Return : (at : ℕ) (e : Option Expr) → stmt_reading (record { notes = []; at = at; node = stmt_node.Return e })
+      ≡ line_at at (StmtNode-F.Return e)
+  reads-Return at e = line at (stmt_node.Return e) _ (fold-node-Return statement (statements.node_step reader) e)
+
+  pub reads-block : (items : List Stmt) (parts : List (ReadsTo C ReadStatement)) → map stmt_reading items ≡ parts
+      → block_reading reader (block_of items []) ≡ statements.block_step reader (record { items = parts; tail = [] })
+  reads-block items parts is = fold-block statement (statements.node_step reader) items []
+      ∙ ap (λ (parts : List (ReadsTo C ReadStatement)). statements.block_step reader (record { items = parts; tail = [] })) is

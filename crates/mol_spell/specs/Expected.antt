@@ -1,7 +1,7 @@
 -- What source files say of each of their classes, members, methods and parameters: what it is known as, and what its cells hold.
-use Rattle.std.specs.Prelude.{ℕ, Bool, false, true, List, [], ◌∷◌, map, Option, Some, None, option_map, if◌then◌else◌, slice_get, codes}
+use Rattle.std.specs.Prelude.{ℕ, Bool, true, List, [], ◌∷◌, map, Option, Some, None, option_map, slice_get, codes}
 use Rattle.std.specs.List.{zip}
-use Rattle.std.specs.Option.{option_map_or, option_and_then}
+use Rattle.std.specs.Option.{option_and_then}
 use Rattle.mol_base.specs.declared.ident.Id.{Id}
 use Rattle.mol_values.specs.declared.cell.Slot.{Slot}
 use Rattle.mol_values.specs.declared.cell.Slot.TheVariants as slots
@@ -19,7 +19,6 @@ use Rattle.mol_values.specs.declared.value.Value.{Value}
 use Rattle.mol_values.specs.declared.value.Value.TheVariants as values
 use Rattle.mol_values.specs.declared.words.Notes.{Notes}
 use Rattle.jav_tree.specs.declared.types.TypeName.{TypeName}
-use Rattle.jav_tree.specs.declared.unit.Field.{Field}
 use Rattle.jav_tree.specs.declared.unit.Member.{Member}
 use Rattle.jav_tree.specs.declared.unit.Member.TheVariants as member
 use Rattle.jav_tree.specs.declared.unit.Param.{Param}

@@ -1,12 +1,12 @@
 -- Source files with their paths, and what stands in them.
-use Rattle.std.specs.Prelude.{◌≡◌, ℕ, List, [], ◌∷◌, map, Option, Some, None, slice_get, find}
+use Rattle.std.specs.Prelude.{◌≡◌, ℕ, List, [], map, Option, Some, slice_get, find}
 use Rattle.std.specs.Ordering.{is_eq}
 use Rattle.jav_tree.specs.declared.types.TypeName.{TypeName}
 use Rattle.jav_tree.specs.declared.unit.Member.{Member}
 use Rattle.jav_tree.specs.declared.unit.Member.TheVariants as member
 use Rattle.jav_tree.specs.declared.unit.Param.{Param}
 use Rattle.jav_tree.specs.declared.unit.Unit.{Unit as Source}
-use Rattle.jav_view.specs.DottedNames.{Name, Names}
+use Rattle.jav_view.specs.DottedNames.{Name}
 use Rattle.jav_view.specs.Types.{full_name}
 use Rattle.jav_view.specs.TypeTexts.{type_in}
 use Rattle.jav_view.specs.UnitViews.{MemberKey, class_of, classes_of, header_of, view_of}

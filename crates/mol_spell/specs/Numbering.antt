@@ -1,14 +1,13 @@
 -- How what stands in source files is numbered: from 1, first the classes by the paths of their files; then their members, file by file,
 -- as they stand in them; then the methods, in the order of their topmost declarations, each followed by its parameters.
-use Rattle.std.specs.Prelude.{ℕ, suc, ◌==◌, Bool, true, false, ◌&&◌, List, [], ◌∷◌, ◌++◌, map, length, Option, Some, None, option_map, unwrap_or, if◌then◌else◌, reverse}
-use Rattle.std.specs.List.{flat_map, filter_map, position_or_len, range_with_len}
-use Rattle.std.specs.Option.{option_map_or, option_to_list}
+use Rattle.std.specs.Prelude.{ℕ, suc, ◌==◌, Bool, false, ◌&&◌, List, [], ◌∷◌, ◌++◌, map, length, unwrap_or, if◌then◌else◌, reverse}
+use Rattle.std.specs.List.{flat_map, position_or_len, range_with_len}
+use Rattle.std.specs.Option.{option_map_or}
 use Rattle.std.specs.Ordering.{nat_cmp, is_lt, is_eq}
 use Rattle.std.specs.Cmp.Lexicographic.{slice_cmp}
 use Rattle.std.specs.declared.cmp.Ordering.{Ordering}
 use Rattle.mol_base.specs.declared.ident.Id.{Id}
 use Rattle.mol_table.specs.Renumber.{base_id}
-use Rattle.jav_tree.specs.declared.unit.Member.{Member}
 use Rattle.jav_view.specs.DottedNames.{Name}
 use Rattle.jav_view.specs.LookUps.{is_constructor, is_method, nearest, way}
 use Rattle.jav_view.specs.UnitViews.{MemberKey, member_key_cmp, numbered}

@@ -9,7 +9,7 @@ use Rattle.mol_table.specs.Program.{Program, value_at, living_at, package_at, na
 use Rattle.mol_values.specs.declared.cell.Slot.TheVariants as slots
 use Rattle.mol_values.specs.declared.itype.IType.{IType, fold-IType}
 use Rattle.mol_values.specs.declared.itype.IType.TheOpen.{IType-F}
-use Rattle.mol_values.specs.declared.kind.MethodKind.TheVariants.{Instance, Static, Constructor}
+use Rattle.mol_values.specs.declared.kind.MethodKind.TheVariants.{Static, Constructor}
 use Rattle.mol_values.specs.declared.known.Known.{Known}
 use Rattle.mol_values.specs.declared.known.Known.TheVariants as knowns
 use Rattle.mol_values.specs.declared.param.Param.{Param}

@@ -7,13 +7,13 @@ use Rattle.mol_base.specs.declared.ident.Id.{Id}
 use Rattle.jav_tree.specs.declared.unit.Member.{Member}
 use Rattle.jav_tree.specs.declared.unit.Member.TheVariants as member
 use Rattle.jav_tree.specs.declared.unit.Param.{Param}
-use Rattle.jav_view.specs.DottedNames.{Name, Names}
+use Rattle.jav_view.specs.DottedNames.{Names}
 use Rattle.jav_view.specs.UnitViews.{MemberKey, header_of, numbered}
 use Rattle.jav_view.specs.Views.{ViewDeclaration}
 use Rattle.mol_spell.specs.FaultKinds.{redeclared}
 use Rattle.mol_spell.specs.Files.{File, Files, files_view, params_of, declaration_at}
 use Rattle.mol_spell.specs.Numbering.{ids_of}
-use Rattle.mol_spell.specs.Outcomes.{TreeFault, Outcome, maybe}
+use Rattle.mol_spell.specs.Outcomes.{TreeFault, maybe}
 use Rattle.mol_spell.specs.Readers.{Parameter, Reader}
 use Rattle.mol_spell.specs.ReadStatements.{read_initial, read_body}
 use Rattle.mol_spell.specs.ReadTypes.{read_type, seen_type}

@@ -14,7 +14,7 @@ use Rattle.jav_view.specs.LookUps.{super_constructor}
 use Rattle.jav_view.specs.Members.{Constructor, declared_constructor, default_constructor}
 use Rattle.jav_view.specs.Views.{ViewType, Found, found, outside, not_found}
 use Rattle.mol_spell.specs.FaultKinds.{redeclared, unknown_member}
-use Rattle.mol_spell.specs.Locals.{Local, Locals, no_locals, declare, at_end_of_block, names_in_scope}
+use Rattle.mol_spell.specs.Locals.{Locals, no_locals, declare, at_end_of_block, names_in_scope}
 use Rattle.mol_spell.specs.Outcomes.{TreeFault, Outcome, fine, silent, refused, with_faults, mapped, over, both, all, maybe}
 use Rattle.mol_spell.specs.Readers.{Reader, param_names}
 use Rattle.mol_spell.specs.ReadTrees.{arguments_for, read_expr}

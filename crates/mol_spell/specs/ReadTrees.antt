@@ -6,7 +6,6 @@ use Rattle.mol_base.specs.Operators.{is_step}
 use Rattle.mol_base.specs.declared.ident.Id.{Id}
 use Rattle.jav_tree.specs.declared.expr.Expr.{Expr, fold-Expr}
 use Rattle.jav_tree.specs.declared.expr.ExprNode.TheOpen.{ExprNode-F, Expr-F}
-use Rattle.jav_tree.specs.declared.types.TypeName.{TypeName}
 use Rattle.jav_view.specs.DottedNames.{Name, Names, Dotted}
 use Rattle.jav_view.specs.Leftmost.{Leftmost, leftmost_variable, leftmost_class, leftmost_import, leftmost_outside}
 use Rattle.jav_view.specs.LookUps.{variable, leftmost, method_from, super_method, constructor_from, field_on, method_on, index_on, field_through, method_through}

@@ -2,7 +2,6 @@
 use Rattle.std.specs.Prelude.{ℕ, List, [], ◌∷◌, Option, Some, None, option_map, find, codes}
 use Prim.Native.String.{String}
 use Rattle.std.specs.Str.{bytes_eq}
-use Rattle.mol_base.specs.declared.ident.Id.{Id}
 use Rattle.jav_tree.specs.declared.types.TypeName.{TypeName, fold-TypeName}
 use Rattle.jav_tree.specs.declared.types.TypeName.TheOpen.{TypeName-F}
 use Rattle.jav_view.specs.DottedNames.{Name, cut}

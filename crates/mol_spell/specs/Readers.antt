@@ -1,5 +1,5 @@
 -- Where trees are read: the classes and members that there are, what their identities are, and the place of the tree among them.
-use Rattle.std.specs.Prelude.{ℕ, Bool, List, map}
+use Rattle.std.specs.Prelude.{Bool, List, map}
 use Rattle.mol_base.specs.declared.ident.Id.{Id}
 use Rattle.jav_view.specs.DottedNames.{Name, Names}
 use Rattle.jav_view.specs.Types.{Header}

@@ -6,20 +6,17 @@ use Rattle.std.specs.Cmp.Lexicographic.{slice_cmp}
 use Rattle.std.specs.declared.cmp.Ordering.{Ordering}
 use Rattle.std.specs.declared.cmp.Ordering.TheVariants.{Less}
 use Rattle.mol_base.specs.Paths.{path_of}
-use Rattle.jav_tree.specs.declared.types.TypeName.{TypeName}
 use Rattle.jav_tree.specs.declared.unit.Ctor.{Ctor}
 use Rattle.jav_tree.specs.declared.unit.Field.{Field}
 use Rattle.jav_tree.specs.declared.unit.Member.{Member}
 use Rattle.jav_tree.specs.declared.unit.Member.TheVariants as member
 use Rattle.jav_tree.specs.declared.unit.Method.{Method}
 use Rattle.jav_view.specs.Ancestors.{IsAncestor, Leads}
-use Rattle.jav_view.specs.DottedNames.{Name, Names, dot, simple_name}
-use Rattle.jav_view.specs.UnitViews.{MemberKey}
+use Rattle.jav_view.specs.DottedNames.{Name, dot, simple_name}
 use Rattle.jav_view.specs.StaticTypes.{SameType}
 use Rattle.jav_view.specs.Views.{ViewType}
 use Rattle.mol_spell.specs.FaultKinds.{FaultKind, rank_of, path_differs, duplicate_class, package_is_class, super_cycle, import_clash, duplicate_member, overload_by_type, result_differs, static_hidden}
 use Rattle.mol_spell.specs.Files.{File, Files, HasFile, class_name, files_view, param_types, place_of_member, type_of_file}
-use Rattle.mol_spell.specs.Outcomes.{TreeFault}
 use Rattle.mol_spell.specs.ReadFiles.{tree_faults}
 
 -- ---- types

@@ -1,5 +1,5 @@
 -- When statements of a program say what source text says: their types and expressions do, and all else is the same.
-use Rattle.std.specs.Prelude.{◌≡◌, ℕ, Bool, List, [], ◌∷◌, Option}
+use Rattle.std.specs.Prelude.{◌≡◌, Bool, List, [], ◌∷◌, Option}
 use Rattle.std.specs.List.{AllZip}
 use Rattle.mol_base.specs.declared.ident.Id.{Id}
 use Rattle.mol_spell.specs.Says.{SaysType, Says, SaysAll, SaysArguments, SaysMaybe}

@@ -1,5 +1,5 @@
 -- The static types of the expressions of a program (JLS 15), as far as names ask for them.
-use Rattle.std.specs.Prelude.{ℕ, ◌+◌, List, length, Option, Some, None, find, slice_get}
+use Rattle.std.specs.Prelude.{◌+◌, List, length, Option, Some, find, slice_get}
 use Rattle.std.specs.FinMap.{entries}
 use Rattle.std.specs.Option.{option_map_or, option_and_then}
 use Rattle.mol_base.specs.declared.ident.Id.{Id}

@@ -4,12 +4,18 @@
 //! laws of the definitions.
 #![tactic(auto)]
 
-ghost use Rattle.mol_spell.specs.Laws.{FirstFaults, PlainForms, ProgramsViewed};
+ghost use Rattle.mol_spell.specs.Laws.{FirstFaults, NumbersApart, PlainForms, ProgramsViewed};
 
 /// The law of the view of a program: it ascends by its keys, so that the rules on names have exactly one answer over it.
 #[tactic(auto, using(crate::proofs::ProgramsViewed::programs_viewed))]
 pub fn programs_viewed()
     ensures { ProgramsViewed }
+{}
+
+/// The law of numbers: no two of the classes, members, methods and parameters of files have one.
+#[tactic(auto, using(crate::proofs::NumbersApart::numbers_apart))]
+pub fn numbers_apart()
+    ensures { NumbersApart }
 {}
 
 /// The law of the first fault: of files with different paths at most one fault is the first.
