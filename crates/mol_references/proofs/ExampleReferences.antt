@@ -1,8 +1,7 @@
 -- The references of worked expressions and statements.
-use Rattle.std.proofs.Common.{◌≡◌, ℕ, false, List, [], ◌∷◌, ◌++◌, Option, Some, None, codes, refl, sym, ap, ◌∙◌}
+use Rattle.std.proofs.Common.{◌≡◌, ℕ, false, List, [], ◌∷◌, Some, codes, refl, sym, ap, ◌∙◌}
 use Rattle.mol_base.specs.declared.ident.Id.{Id}
 use Rattle.mol_values.specs.Blocks.{block_of}
-use Rattle.mol_values.specs.declared.iblock.IBlock.{IBlock}
 use Rattle.mol_values.specs.declared.iblock.IElse.TheFolds.{fold-roll-IBlock}
 use Rattle.mol_values.specs.declared.iblock.IForStart.TheVariants as starts
 use Rattle.mol_values.specs.declared.iblock.ILet.{ILet}
@@ -11,7 +10,6 @@ use Rattle.mol_values.specs.declared.iexpr.Argument.{Argument}
 use Rattle.mol_values.specs.declared.iexpr.IExpr.{IExpr}
 use Rattle.mol_values.specs.declared.iexpr.IExpr.TheOpen.{IExpr-F}
 use Rattle.mol_values.specs.declared.iexpr.IExpr.TheVariants as exprs
-use Rattle.mol_values.specs.declared.itype.IType.{IType}
 use Rattle.mol_values.specs.declared.itype.IType.TheFolds.{fold-roll-IType}
 use Rattle.mol_values.specs.declared.itype.IType.TheOpen.{IType-F}
 use Rattle.mol_values.specs.declared.itype.IType.TheVariants as types

@@ -1,9 +1,8 @@
 -- The references of the parts of an expression or a statement stand in printed order.
-use Rattle.std.proofs.Common.{◌≡◌, ℕ, List, [], ◌∷◌, ◌++◌, map, refl, sym, ◌∙◌, ap}
+use Rattle.std.proofs.Common.{◌≡◌, List, [], ◌∷◌, ◌++◌, map, refl, sym, ◌∙◌, ap}
 use Rattle.mol_base.specs.declared.ident.Id.{Id}
-use Rattle.mol_values.specs.Blocks.{branch_of}
 use Rattle.mol_values.specs.declared.iblock.IElse.TheFolds.{fold-roll-IStmtNode, fold-roll-IIf, map-IStmtNode}
-use Rattle.mol_values.specs.declared.iblock.IElse.TheOpen.{IElse-F, IStmtNode-F, IBlock-F, IIf-F, IStmt-F}
+use Rattle.mol_values.specs.declared.iblock.IElse.TheOpen.{IStmtNode-F}
 use Rattle.mol_values.specs.declared.iblock.IBlock.{IBlock}
 use Rattle.mol_values.specs.declared.iblock.IElse.{IElse}
 use Rattle.mol_values.specs.declared.iblock.IElse.TheViews.{roll-IStmtNode}
