@@ -16,12 +16,14 @@ module _ {C M : Type 0} (view : View C M) where
   way_from-first zero met class = refl
   way_from-first (suc steps) met class = refl
 
-  pub follows-first : {met : List C} {class : C} {classes : List C} → Follows view met class classes → (rest : List C) × (classes ≡ class ∷ rest)
+  pub follows-first : {met : List C} {class : C} {classes : List C} → Follows view met class classes
+      → (rest : List C) × (classes ≡ class ∷ rest)
   follows-first (Follows.up {way = above_it} extends new more) = (above_it, refl)
   follows-first (Follows.end ends) = ([], refl)
 
   -- a step up, and the way from there, where something stands after its class
-  next_up : {met : List C} {class : C} {classes rest : List C} (above : C) → Follows view met class classes → classes ≡ class ∷ rest → Contains rest above
+  next_up : {met : List C} {class : C} {classes rest : List C} (above : C) → Follows view met class classes → classes ≡ class ∷ rest
+      → Contains rest above
       → (next : C) × Extends view class next × (¬ Contains (class ∷ met) next) × Follows view (class ∷ met) next rest
   next_up above (Follows.up {met = met} {class = class} {above = next} extends new more) is stands =
       (next, extends, new, subst (Follows view (class ∷ met) next) (ap (drop 1) is) more)
@@ -49,7 +51,8 @@ module _ {C M : Type 0} (view : View C M) where
     by_place (inr later) = absurd (stands_nowhere x later)
 
   -- no class on it was met before
-  follows-new : {met : List C} {class : C} {classes : List C} → Follows view met class classes → ¬ Contains met class → (x : C) → Contains classes x
+  follows-new : {met : List C} {class : C} {classes : List C} → Follows view met class classes → ¬ Contains met class → (x : C)
+      → Contains classes x
       → ¬ Contains met x
   follows-new (Follows.up {met = met} {way = above_it} {class = class} extends new more) first x stands =
       by_place (stands_where class x above_it stands) (follows-new more new x) where
@@ -70,7 +73,8 @@ module _ {C M : Type 0} (view : View C M) where
         by_later (inl same) = inr (Leads.last_step (subst (Extends view class) same extends))
         by_later (inr leads) = inr (Leads.step extends leads)
 
-        by_place : (class ≡ x) ⊎ Contains above_it x → (Contains above_it x → (above ≡ x) ⊎ Leads view above x) → (class ≡ x) ⊎ Leads view class x
+        by_place : (class ≡ x) ⊎ Contains above_it x → (Contains above_it x → (above ≡ x) ⊎ Leads view above x)
+            → (class ≡ x) ⊎ Leads view class x
         by_place (inl same) rest = inl same
         by_place (inr later) rest = by_later (rest later)
   follows-leads (Follows.end {class = class} ends) x stands = by_place (stands_where class x [] stands) where
@@ -103,7 +107,8 @@ module _ {C M : Type 0} (view : View C M) where
 
 module _ {C M : Type 0} (view : View C M) (ordered : AreOrdered view.classes) where
   -- what the superclass of a class on the way is: it was met before, or is on the way too
-  closed : {met : List C} {class : C} {classes : List C} → Follows view met class classes → (x above : C) → Contains classes x → Extends view x above
+  closed : {met : List C} {class : C} {classes : List C} → Follows view met class classes → (x above : C) → Contains classes x
+      → Extends view x above
       → Contains met above ⊎ Contains classes above
   closed (Follows.up {met = met} {way = above_it} {class = class} {above = next} extends new more) x above stands extends-x =
       by_place (stands_where class x above_it stands) (λ later. closed more x above later extends-x) where

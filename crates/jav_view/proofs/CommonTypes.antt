@@ -46,7 +46,8 @@ module _ {C M : Type 0} (view : View C M) (ordered : AreOrdered view.classes) wh
   reads_apart first null_value differs = ReadsCommon.second_null
   reads_apart (class_value a) (class_value b) differs = reads_upper a b differs _ _ refl refl
   reads_apart first second differs =
-      ReadsCommon.apart differs (λ is. absurd cc) (λ is. absurd cc) (λ is. absurd cc) (λ is. absurd cc) (λ left right is-left is-right. absurd cc)
+      ReadsCommon.apart differs (λ is. absurd cc) (λ is. absurd cc) (λ is. absurd cc) (λ is. absurd cc)
+      (λ left right is-left is-right. absurd cc)
 
   reads : (first second : StaticType C) (b : Bool) → same_value view.classes.cmp first second ≡ b
       → ReadsCommon view first second (cond b first (common_apart view first second))

@@ -46,8 +46,16 @@ field words to name = member.Field (record { front = []; at = 0; words = map cod
 
 abbrev pub method : Bool → TypeName → String → List Param → Member
 method is_static result name params =
-    member.Method (record
-    { front = []; at = 0; words = []; is_static = is_static; result = result; name = codes name; params = params; block = Some (block_of [] []) })
+    member.Method (record {
+      front = [];
+      at = 0;
+      words = [];
+      is_static = is_static;
+      result = result;
+      name = codes name;
+      params = params;
+      block = Some (block_of [] []);
+    })
 
 abbrev pub file : String → List String → String → Option TypeName → List Member → Source
 file in_package imports name parent members = record {
@@ -69,68 +77,71 @@ view-seen units superclasses is = λ i. record (view_of units) { superclass = λ
 -- ---- readings
 
 -- What the functions find, the rules read.
-pub reads : {A : Type 0} {Reads : A → Type 0} {answer read : A} → IsTheAnswer Reads answer → answer ≡ read → Reads read
+pub reads : {A : Type 0} {Reads : A → Type 0} {answer reading : A} → IsTheAnswer Reads answer → answer ≡ reading → Reads reading
 reads {A} {Reads} is same = subst Reads same is.holds
 
 -- over files whose view is known as a value
 module _ (units : List Source) (view : View ℕ MemberKey) (seen : view_of units ≡ view) where
-  pub variable_read : (place : Place ℕ) (name : Name) (read : Found (Variable ℕ MemberKey)) → variable view place name ≡ read
-      → ReadsVariable (view_of units) place name read
-  variable_read place name read is =
+  pub variable_read : (place : Place ℕ) (name : Name) (reading : Found (Variable ℕ MemberKey)) → variable view place name ≡ reading
+      → ReadsVariable (view_of units) place name reading
+  variable_read place name reading is =
       reads (variable-answered (view_of units) (view_of_ordered units) place name) (ap (λ v. variable v place name) seen ∙ is)
 
-  pub leftmost_read : (place : Place ℕ) (first : Name) (rest : Names) (read : Leftmost ℕ MemberKey) → leftmost view place first rest ≡ read
-      → ReadsLeftmost (view_of units) place first rest read
-  leftmost_read place first rest read is =
+  pub leftmost_read : (place : Place ℕ) (first : Name) (rest : Names) (reading : Leftmost ℕ MemberKey)
+      → leftmost view place first rest ≡ reading
+      → ReadsLeftmost (view_of units) place first rest reading
+  leftmost_read place first rest reading is =
       reads (leftmost-answered (view_of units) (view_of_ordered units) place first rest) (ap (λ v. leftmost v place first rest) seen ∙ is)
 
-  pub field_read : (class : ℕ) (name : Name) (read : Found (ViewField ℕ MemberKey)) → field_from view class name ≡ read
-      → ReadsField (view_of units) class name read
-  field_read class name read is =
+  pub field_read : (class : ℕ) (name : Name) (reading : Found (ViewField ℕ MemberKey)) → field_from view class name ≡ reading
+      → ReadsField (view_of units) class name reading
+  field_read class name reading is =
       reads (field-answered (view_of units) (view_of_ordered units) class name) (ap (λ v. field_from v class name) seen ∙ is)
 
-  pub super_method_read : (class : ℕ) (name : Name) (arity : ℕ) (read : Found (ViewDeclaration ℕ MemberKey))
-      → super_method view class name arity ≡ read → ReadsSuperMethod (view_of units) class name arity read
-  super_method_read class name arity read is =
+  pub super_method_read : (class : ℕ) (name : Name) (arity : ℕ) (reading : Found (ViewDeclaration ℕ MemberKey))
+      → super_method view class name arity ≡ reading → ReadsSuperMethod (view_of units) class name arity reading
+  super_method_read class name arity reading is =
       reads (super_method-answered (view_of units) (view_of_ordered units) class name arity)
       (ap (λ v. super_method v class name arity) seen ∙ is)
 
-  pub method_on_read : (name : Name) (arity : ℕ) (type : StaticType ℕ) (read : OnValue (ViewDeclaration ℕ MemberKey))
-      → method_on view name arity type ≡ read → ReadsMethodOn (view_of units) name arity type read
-  method_on_read name arity type read is =
+  pub method_on_read : (name : Name) (arity : ℕ) (type : StaticType ℕ) (reading : OnValue (ViewDeclaration ℕ MemberKey))
+      → method_on view name arity type ≡ reading → ReadsMethodOn (view_of units) name arity type reading
+  method_on_read name arity type reading is =
       reads (method_on-answered (view_of units) (view_of_ordered units) name arity type) (ap (λ v. method_on v name arity type) seen ∙ is)
 
-  pub choice_read : (first second read : StaticType ℕ) → common view first second ≡ read → ReadsCommon (view_of units) first second read
-  choice_read first second read is =
+  pub choice_read : (first second reading : StaticType ℕ) → common view first second ≡ reading
+      → ReadsCommon (view_of units) first second reading
+  choice_read first second reading is =
       reads (common-answered (view_of units) (classes_of-ordered units) first second) (ap (λ v. common v first second) seen ∙ is)
 
-  pub method_read : (class : ℕ) (name : Name) (arity : ℕ) (read : Found (ViewDeclaration ℕ MemberKey))
-      → method_from view class name arity ≡ read → ReadsMethod (view_of units) class name arity read
-  method_read class name arity read is =
+  pub method_read : (class : ℕ) (name : Name) (arity : ℕ) (reading : Found (ViewDeclaration ℕ MemberKey))
+      → method_from view class name arity ≡ reading → ReadsMethod (view_of units) class name arity reading
+  method_read class name arity reading is =
       reads (method-answered (view_of units) (view_of_ordered units) class name arity) (ap (λ v. method_from v class name arity) seen ∙ is)
 
-  pub static_method_read : (class : ℕ) (name : Name) (arity : ℕ) (read : Option (ViewDeclaration ℕ MemberKey))
-      → method_through view class name arity ≡ read
-      → ReadsStaticMethod (view_of units) class name arity read
-  static_method_read class name arity read is =
+  pub static_method_read : (class : ℕ) (name : Name) (arity : ℕ) (reading : Option (ViewDeclaration ℕ MemberKey))
+      → method_through view class name arity ≡ reading
+      → ReadsStaticMethod (view_of units) class name arity reading
+  static_method_read class name arity reading is =
       reads (static_method-answered (view_of units) (view_of_ordered units) class name arity)
       (ap (λ v. method_through v class name arity) seen ∙ is)
 
-  pub constructor_read : (class arity : ℕ) (read : Found (Constructor ℕ MemberKey)) → constructor_from view class arity ≡ read
-      → ReadsConstructor (view_of units) class arity read
-  constructor_read class arity read is =
+  pub constructor_read : (class arity : ℕ) (reading : Found (Constructor ℕ MemberKey)) → constructor_from view class arity ≡ reading
+      → ReadsConstructor (view_of units) class arity reading
+  constructor_read class arity reading is =
       reads (constructor-answered (view_of units) (view_of_ordered units) class arity) (ap (λ v. constructor_from v class arity) seen ∙ is)
 
-  pub super_constructor_read : (class arity : ℕ) (read : Found (Constructor ℕ MemberKey)) → super_constructor view class arity ≡ read
-      → ReadsSuperConstructor (view_of units) class arity read
-  super_constructor_read class arity read is =
-      reads (super_constructor-answered (view_of units) (view_of_ordered units) class arity) (ap (λ v. super_constructor v class arity) seen ∙ is)
+  pub super_constructor_read : (class arity : ℕ) (reading : Found (Constructor ℕ MemberKey)) → super_constructor view class arity ≡ reading
+      → ReadsSuperConstructor (view_of units) class arity reading
+  super_constructor_read class arity reading is =
+      reads (super_constructor-answered (view_of units) (view_of_ordered units) class arity)
+      (ap (λ v. super_constructor v class arity) seen ∙ is)
 
   pub way_read : (class : ℕ) (classes : List ℕ) → way view class ≡ classes → Way (view_of units) class classes
   way_read class classes is =
       subst (Way (view_of units) class) (ap (λ v. way v class) seen ∙ is) (way-is (view_of units) (classes_of-ordered units) class)
 
-pub type_read : (units : List Source) (header : Header ℕ) (first : Name) (rest : Names) (read : TypeReading ℕ)
-    → type_named (classes_of units) header first rest ≡ read
-    → ReadsType (classes_of units) header first rest read
-type_read units header first rest read is = reads (type-answered (classes_of units) (classes_of-ordered units) header first rest) is
+pub type_read : (units : List Source) (header : Header ℕ) (first : Name) (rest : Names) (reading : TypeReading ℕ)
+    → type_named (classes_of units) header first rest ≡ reading
+    → ReadsType (classes_of units) header first rest reading
+type_read units header first rest reading is = reads (type-answered (classes_of units) (classes_of-ordered units) header first rest) is

@@ -47,7 +47,8 @@ abbrev pub third_extends : ViewType ℕ → List (Option (ViewType ℕ))
 third_extends type = None ∷ None ∷ Some type ∷ []
 
 pub shop-seen : view_of shop ≡ last_extends shop
-shop-seen = view-seen shop (third_extends (class_type 1)) (ap third_extends (type_in-Named (classes_of shop) (header_of (2, till)) (codes "Desk")))
+shop-seen =
+    view-seen shop (third_extends (class_type 1)) (ap third_extends (type_in-Named (classes_of shop) (header_of (2, till)) (codes "Desk")))
 
 -- a field `int count` of a file
 abbrev pub count_in : List Source → ℕ × Source → ℕ → ViewField ℕ MemberKey
@@ -133,7 +134,9 @@ abbrev moved : List Source
 moved = moved_cart ∷ moved_desk ∷ till ∷ []
 
 moved-seen : view_of moved ≡ last_extends moved
-moved-seen = view-seen moved (third_extends (class_type 1)) (ap third_extends (type_in-Named (classes_of moved) (header_of (2, till)) (codes "Desk")))
+moved-seen =
+    view-seen moved (third_extends (class_type 1))
+    (ap third_extends (type_in-Named (classes_of moved) (header_of (2, till)) (codes "Desk")))
 
 abbrev in_total : Place ℕ
 in_total = place_in (0, moved_cart) (codes "Desk" ∷ []) []
@@ -196,7 +199,8 @@ a_package = leftmost_read two_of_a_name (none_extends two_of_a_name) two-seen (i
 -- .. but for the parameter of that name, which goes first, and has no members.
 a_param : ReadsLeftmost (view_of two_of_a_name) (in_f_in_full (codes "a" ∷ [])) (codes "a") (codes "X" ∷ [])
     (leftmost_variable (parameter_variable 0))
-a_param = leftmost_read two_of_a_name (none_extends two_of_a_name) two-seen (in_f_in_full (codes "a" ∷ [])) (codes "a") (codes "X" ∷ []) _ refl
+a_param =
+    leftmost_read two_of_a_name (none_extends two_of_a_name) two-seen (in_f_in_full (codes "a" ∷ [])) (codes "a") (codes "X" ∷ []) _ refl
 
 x_of_int : ReadsFieldOn (view_of two_of_a_name) (codes "X") primitive_value has_no_members
 x_of_int = ReadsOn.of_primitive

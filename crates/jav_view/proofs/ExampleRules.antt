@@ -37,7 +37,8 @@ no_import_here : ReadsType (classes_of users) (header_of (0, file "p" [] "D" Non
 no_import_here = type_read users (header_of (0, file "p" [] "D" None [])) (codes "Date") [] _ refl
 
 -- after a dot: in an outside type there may be others, in a class there are none
-in_outside_import : ReadsType (classes_of users) in_user (codes "Date") (codes "Entry" ∷ []) (imported (codes "java.util.Date") (codes "Entry"))
+in_outside_import : ReadsType (classes_of users) in_user (codes "Date") (codes "Entry" ∷ [])
+    (imported (codes "java.util.Date") (codes "Entry"))
 in_outside_import = type_read users in_user (codes "Date") (codes "Entry" ∷ []) _ refl
 
 in_a_class : ReadsType (classes_of users) in_user (codes "D") (codes "Entry" ∷ []) no_type
@@ -106,7 +107,8 @@ import_before_dot = leftmost_read users none_extends users-seen with_locals (cod
 -- a local goes before what would be a full name
 local_before_full_name : ReadsLeftmost (view_of users) (place_in (2, user) (codes "q" ∷ []) []) (codes "q") (codes "E" ∷ [])
     (leftmost_variable (local_variable 0))
-local_before_full_name = leftmost_read users none_extends users-seen (place_in (2, user) (codes "q" ∷ []) []) (codes "q") (codes "E" ∷ []) _ refl
+local_before_full_name =
+    leftmost_read users none_extends users-seen (place_in (2, user) (codes "q" ∷ []) []) (codes "q") (codes "E" ∷ []) _ refl
 
 -- of two classes whose full names the names begin with, the one of the shorter: `a.b` and `a.b.c`
 abbrev one_in_the_other : List Source

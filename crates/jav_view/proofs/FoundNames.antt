@@ -18,7 +18,8 @@ module _ {C : Type 0} (classes : Classes C) (header : Header C) (own : OwnStands
   simple-stands : (name : Name) (class : C) → ReadsSimple classes header name (class_read class) → HasClass classes class
   simple-stands name class (ReadsSimple.import_class {class = x} import named) = record { class = x; stands = named.here; is = refl }
   simple-stands name class (ReadsSimple.own_class {class = x} no_import is named) = record { class = x; stands = own x is; is = refl }
-  simple-stands name class (ReadsSimple.in_package {class = x} no_import not_own named) = record { class = x; stands = named.here; is = refl }
+  simple-stands name class (ReadsSimple.in_package {class = x} no_import not_own named) =
+      record { class = x; stands = named.here; is = refl }
 
   type-stands : (first : Name) (rest : Names) (class : C) → ReadsType classes header first rest (class_read class) → HasClass classes class
   type-stands first rest class (ReadsType.simple reads) = simple-stands first class reads
@@ -38,7 +39,8 @@ stands_amid (y ∷ front) back x = stands_later y x (front ++ x ∷ back) (stand
 
 module _ {C M : Type 0} (view : View C M) (class : C) where
   -- what the way from a class meets is the class or an ancestor
-  on_way : (nearer farther : List C) (owner : C) → Way view class (nearer ++ owner ∷ farther) → (owner ≡ class) ⊎ IsAncestor view class owner
+  on_way : (nearer farther : List C) (owner : C) → Way view class (nearer ++ owner ∷ farther)
+      → (owner ≡ class) ⊎ IsAncestor view class owner
   on_way [] farther owner way =
       let first = follows-first view way in
       let is : owner ∷ farther ≡ class ∷ first.0 = first.1 in
@@ -53,14 +55,16 @@ module _ {C M : Type 0} (view : View C M) (class : C) where
         met = stands_amid nearer farther owner;
       })
 
-  nearest-owned : {X : Type 0} (owner : X → C) (key : X → M) (P : X → Type 0) (all : List X) (x : X) → IsNearest view owner key P all class x
+  nearest-owned : {X : Type 0} (owner : X → C) (key : X → M) (P : X → Type 0) (all : List X) (x : X)
+      → IsNearest view owner key P all class x
       → (owner x ≡ class) ⊎ IsAncestor view class (owner x)
   nearest-owned owner key P all x is = on_way is.nearer is.farther (owner x) is.way
 
 -- ---- members
 
 module _ {C M : Type 0} (view : View C M) where
-  field-stands : (class : C) (name : Name) (field : ViewField C M) → ReadsField view class name (found field) → IsFieldOf view class name field
+  field-stands : (class : C) (name : Name) (field : ViewField C M) → ReadsField view class name (found field)
+      → IsFieldOf view class name field
   field-stands class name field (ReadsField.nearest is) = record {
     stands = is.least.here;
     named = is.least.holds.0;
@@ -118,7 +122,8 @@ module _ {C X : Type 0} (Reads : C → Found X → Type 0) (is_static : X → Bo
   found_on : (type : StaticType C) (x : X) → ReadsOn Reads is_static arrays_have type (member x) → (class : C) × Reads class (found x)
   found_on type x (ReadsOn.of_class {class = class} reads (OnInstance.on_instance is)) = (class, reads)
 
-  static_on : (type : StaticType C) (x : X) → ReadsOn Reads is_static arrays_have type (static_member x) → (class : C) × Reads class (found x)
+  static_on : (type : StaticType C) (x : X) → ReadsOn Reads is_static arrays_have type (static_member x)
+      → (class : C) × Reads class (found x)
   static_on type x (ReadsOn.of_class {class = class} reads (OnInstance.on_static is)) = (class, reads)
 
 found_through : {X : Type 0} (Reads : Found X → Type 0) (is_static : X → Bool) (x : X) → Through Reads is_static (Some x) → Reads (found x)

@@ -75,8 +75,10 @@ module _ {X : Type 0} (P : X → Type 0) (p : X → Bool) (tests : (x : X) → D
   pub find-found : (xs : List X) (x : X) → find p xs ≡ Some x → Contains xs x × P x
   find-found [] x is = absurd cc
   find-found (y ∷ xs) x is = by_test (p y) refl is (find-found xs x) where
-    by_test : (b : Bool) → p y ≡ b → cond b (Some y) (find p xs) ≡ Some x → (find p xs ≡ Some x → Contains xs x × P x) → Contains (y ∷ xs) x × P x
-    by_test true passes is more = let same : y ≡ x = cc in subst (λ z. Contains (y ∷ xs) z × P z) same (stands_first y xs, (tests y).0 passes)
+    by_test : (b : Bool) → p y ≡ b → cond b (Some y) (find p xs) ≡ Some x → (find p xs ≡ Some x → Contains xs x × P x)
+        → Contains (y ∷ xs) x × P x
+    by_test true passes is more =
+        let same : y ≡ x = cc in subst (λ z. Contains (y ∷ xs) z × P z) same (stands_first y xs, (tests y).0 passes)
     by_test false fails is more = let later = more is in (stands_later y x xs later.0, later.1)
 
   pub find-none : (xs : List X) → find p xs ≡ None → HoldsOfNone P xs
@@ -98,7 +100,8 @@ module _ {X K : Type 0} (cmp : K → K → Ordering) (key : X → K) (order : Is
   -- what comes later in a list that ascends has a greater key
   pub less-later : (x y : X) (xs : List X) → IsStrictlySortedBy (on key cmp) (x ∷ xs) → Contains xs y → cmp (key x) (key y) ≡ Less
   unfolding IsStrictlySortedBy
-  less-later x y xs up h = All-contains (λ z. cmp (key x) (key z) ≡ Less) xs y (All-from_recursion (λ z. cmp (key x) (key z) ≡ Less) xs up.0) h
+  less-later x y xs up h =
+      All-contains (λ z. cmp (key x) (key z) ≡ Less) xs y (All-from_recursion (λ z. cmp (key x) (key z) ≡ Less) xs up.0) h
 
   pub ascending-rest : (x : X) (xs : List X) → IsStrictlySortedBy (on key cmp) (x ∷ xs) → IsStrictlySortedBy (on key cmp) xs
   unfolding IsStrictlySortedBy
@@ -150,19 +153,21 @@ module _ {X K : Type 0} (cmp : K → K → Ordering) (key : X → K) (order : Is
       first-least : (xs : List X) (x y : X) → IsStrictlySortedBy (on key cmp) xs → find p xs ≡ Some x → Contains xs y → P y
           → cmp (key y) (key x) ≢ Less
       first-least [] x y up is of-y holds = absurd (stands_nowhere y of-y)
-      first-least (z ∷ xs) x y up is of-y holds = by_test (p z) refl is (stands_where z y xs of-y) (first-least xs x y (ascending-rest z xs up)) where
-        at_head : z ≡ x → (z ≡ y) ⊎ Contains xs y → cmp (key y) (key x) ≢ Less
-        at_head same (inl is-y) =
-            λ less. less_equal (cmp (key y) (key x)) less (ap (λ w. cmp (key y) (key w)) (sym same ∙ is-y) ∙ tied_itself order.total (key y)) where
-              less_equal : (o : Ordering) → o ≡ Less → o ≡ Equal → ⊥
-              less_equal o less equal = absurd cc
-        at_head same (inr later) = subst (λ w. cmp (key y) (key w) ≢ Less) same (not-back (key z) (key y) (less-later z y xs up later))
+      first-least (z ∷ xs) x y up is of-y holds =
+          by_test (p z) refl is (stands_where z y xs of-y) (first-least xs x y (ascending-rest z xs up)) where
+            at_head : z ≡ x → (z ≡ y) ⊎ Contains xs y → cmp (key y) (key x) ≢ Less
+            at_head same (inl is-y) =
+                λ less. less_equal (cmp (key y) (key x)) less
+                (ap (λ w. cmp (key y) (key w)) (sym same ∙ is-y) ∙ tied_itself order.total (key y)) where
+                  less_equal : (o : Ordering) → o ≡ Less → o ≡ Equal → ⊥
+                  less_equal o less equal = absurd cc
+            at_head same (inr later) = subst (λ w. cmp (key y) (key w) ≢ Less) same (not-back (key z) (key y) (less-later z y xs up later))
 
-        by_test : (b : Bool) → p z ≡ b → cond b (Some z) (find p xs) ≡ Some x → (z ≡ y) ⊎ Contains xs y
-            → (find p xs ≡ Some x → Contains xs y → P y → cmp (key y) (key x) ≢ Less) → cmp (key y) (key x) ≢ Less
-        by_test true passes is where-y more = at_head (let same : z ≡ x = cc in same) where-y
-        by_test false fails is (inl is-y) more = absurd (Decides-not (tests z) fails (subst P (sym is-y) holds))
-        by_test false fails is (inr later) more = more is later holds
+            by_test : (b : Bool) → p z ≡ b → cond b (Some z) (find p xs) ≡ Some x → (z ≡ y) ⊎ Contains xs y
+                → (find p xs ≡ Some x → Contains xs y → P y → cmp (key y) (key x) ≢ Less) → cmp (key y) (key x) ≢ Less
+            by_test true passes is where-y more = at_head (let same : z ≡ x = cc in same) where-y
+            by_test false fails is (inl is-y) more = absurd (Decides-not (tests z) fails (subst P (sym is-y) holds))
+            by_test false fails is (inr later) more = more is later holds
 
       -- the first that passes has the least key of those that do
       pub find-least : (xs : List X) (x : X) → IsStrictlySortedBy (on key cmp) xs → find p xs ≡ Some x → IsLeast cmp key P xs x

@@ -42,7 +42,7 @@ module _ {A : Type 0} {Reads : Found A → Type 0} {answer : Found A} (is : IsTh
   same : (first second : Found A) → Reads first → Reads second → first ≡ second
   same first second of-first of-second = is.only first of-first ∙ sym (is.only second of-second)
 
-  some : (read : Found A) → Reads read → ((x : A) × Reads (found x)) ⊎ (Reads outside ⊎ Reads not_found)
+  some : (reading : Found A) → Reads reading → ((x : A) × Reads (found x)) ⊎ (Reads outside ⊎ Reads not_found)
   some (found x) reads = inl (x, reads)
   some outside reads = inr (inl reads)
   some not_found reads = inr (inr reads)

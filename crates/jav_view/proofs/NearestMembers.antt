@@ -23,7 +23,8 @@ pub record IsNearestOf {X C M : Type 0} (view : View C M) (owner : X → C) (key
   pub none_nearer : All (λ y. P y → ¬ Contains nearer (owner y)) all
   pub least : IsLeast view.member_cmp key (λ y. P y × (owner y ≡ owner x)) all x
 
-module _ {X C M : Type 0} (view : View C M) (ordered : AreOrdered view.classes) (order : IsKeyOrder view.member_cmp) (owner : X → C) (key : X → M)
+module _ {X C M : Type 0} (view : View C M) (ordered : AreOrdered view.classes) (order : IsKeyOrder view.member_cmp) (owner : X → C)
+    (key : X → M)
     (P : X → Type 0) (p : X → Bool) (tests : (x : X) → Decides (p x) (P x)) (all : List X)
     (up : IsStrictlySortedBy (on key view.member_cmp) all) where
   -- a member that passes, of this class
@@ -47,14 +48,16 @@ module _ {X C M : Type 0} (view : View C M) (ordered : AreOrdered view.classes) 
       (owned_tests class) all x up is
 
   owned-none : (class : C) → owned class ≡ None → HoldsOfNone (λ y. P y × (owner y ≡ class)) all
-  owned-none class is = find-none (λ y. P y × (owner y ≡ class)) (λ y. p y && is_eq (view.classes.cmp (owner y) class)) (owned_tests class) all is
+  owned-none class is =
+      find-none (λ y. P y × (owner y ≡ class)) (λ y. p y && is_eq (view.classes.cmp (owner y) class)) (owned_tests class) all is
 
   none-owned : (class : C) → HoldsOfNone (λ y. P y × (owner y ≡ class)) all → owned class ≡ None
   none-owned class none =
       find-holds_of_none (λ y. P y × (owner y ≡ class)) (λ y. p y && is_eq (view.classes.cmp (owner y) class)) (owned_tests class) all none
 
   -- one more class in front, of which no such member is
-  farther_on : (class : C) (classes : List C) → HoldsOfNone (λ y. P y × (owner y ≡ class)) all → All (λ y. P y → ¬ Contains classes (owner y)) all
+  farther_on : (class : C) (classes : List C) → HoldsOfNone (λ y. P y × (owner y ≡ class)) all
+      → All (λ y. P y → ¬ Contains classes (owner y)) all
       → All (λ y. P y → ¬ Contains (class ∷ classes) (owner y)) all
   farther_on class classes none later = All-from_each (λ y. P y → ¬ Contains (class ∷ classes) (owner y)) all each where
     each : (y : X) → Contains all y → P y → ¬ Contains (class ∷ classes) (owner y)

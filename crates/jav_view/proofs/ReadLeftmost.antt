@@ -33,14 +33,16 @@ module _ {C : Type 0} (classes : Classes C) where
       → IsFewest classes text (next ∷ rest) (suc further) class → IsFewest classes (text ++ dot ∷ next) rest further class
   IsFewest-rest text next rest further class is = record {
     here = subst (λ name. IsClassNamed classes name class) (sym (joined-more text next (take further rest))) is.here;
-    none_fewer = λ k below. subst (NoClassNamed classes) (sym (joined-more text next (take k rest))) (is.none_fewer (suc k) (omega (arith, below)));
+    none_fewer =
+        λ k below. subst (NoClassNamed classes) (sym (joined-more text next (take k rest))) (is.none_fewer (suc k) (omega (arith, below)));
   }
 
 module _ {C : Type 0} (classes : Classes C) (ordered : AreOrdered classes) where
   abbrev IsAnswer : Name → Names → C × ℕ → Type 0
   IsAnswer text names o = (class : ViewClass C) × IsFewest classes text names o.1 class × (class.key ≡ o.0)
 
-  at_text : (text : Name) (names : Names) (class : ViewClass C) (o : C × ℕ) → class_named classes text ≡ Some class → Some (class.key, 0) ≡ Some o
+  at_text : (text : Name) (names : Names) (class : ViewClass C) (o : C × ℕ) → class_named classes text ≡ Some class
+      → Some (class.key, 0) ≡ Some o
       → IsAnswer text names o
   at_text text names class o has is =
       let same : (class.key, 0) ≡ o = cc in
@@ -55,7 +57,8 @@ module _ {C : Type 0} (classes : Classes C) (ordered : AreOrdered classes) where
   fewest-is text (next ∷ rest) o =
       by_class (class_named classes text) refl (fewest classes (text ++ dot ∷ next) rest) (fewest-is (text ++ dot ∷ next) rest) where
         by_class : (c : Option (ViewClass C)) → class_named classes text ≡ c → (later : Option (C × ℕ))
-            → ((p : C × ℕ) → later ≡ Some p → IsAnswer (text ++ dot ∷ next) rest p) → here_or c later ≡ Some o → IsAnswer text (next ∷ rest) o
+            → ((p : C × ℕ) → later ≡ Some p → IsAnswer (text ++ dot ∷ next) rest p) → here_or c later ≡ Some o
+            → IsAnswer text (next ∷ rest) o
         by_class (Some class) has later more is = at_text text (next ∷ rest) class o has is
         by_class None none None more is = absurd cc
         by_class None none (Some p) more is =
@@ -64,7 +67,8 @@ module _ {C : Type 0} (classes : Classes C) (ordered : AreOrdered classes) where
             subst (IsAnswer text (next ∷ rest)) same
             (answer.0, IsFewest-more classes text next rest p.1 answer.0 (class_named-none classes text none) answer.1, answer.2)
 
-  fewest-none : (text : Name) (names : Names) → fewest classes text names ≡ None → (k : ℕ) → NoClassNamed classes (joined text (take k names))
+  fewest-none : (text : Name) (names : Names) → fewest classes text names ≡ None → (k : ℕ)
+      → NoClassNamed classes (joined text (take k names))
   fewest-none text [] is k = by_class (class_named classes text) refl is k where
     at_place : NoClassNamed classes text → (j : ℕ) → NoClassNamed classes (joined text (take j []))
     at_place none zero = none
@@ -102,36 +106,41 @@ module _ {C : Type 0} (classes : Classes C) (ordered : AreOrdered classes) where
         is-fewest (text ++ dot ∷ next) rest further class (IsFewest-rest classes text next rest further class is),
       ) refl
 
-  none-fewest : (text : Name) (names : Names) → ((k : ℕ) → NoClassNamed classes (joined text (take k names))) → fewest classes text names ≡ None
+  none-fewest : (text : Name) (names : Names) → ((k : ℕ) → NoClassNamed classes (joined text (take k names)))
+      → fewest classes text names ≡ None
   none-fewest text [] none = rw (none-class_named classes text (none zero)) refl
   none-fewest text (next ∷ rest) none =
       rw (
         none-class_named classes text (none zero),
-        none-fewest (text ++ dot ∷ next) rest (λ k. subst (NoClassNamed classes) (sym (joined-more text next (take k rest))) (none (suc k))),
+        none-fewest (text ++ dot ∷ next) rest
+            (λ k. subst (NoClassNamed classes) (sym (joined-more text next (take k rest))) (none (suc k))),
       ) refl
 
 -- ---- the leftmost name
 
 module _ {C M : Type 0} (view : View C M) (ordered : IsOrdered view) (place : Place C) (first : Name) (rest : Names) where
-  simple-is : (read : TypeReading C) → ReadsSimple view.classes place.header first read → read ≡ simple_type view.classes place.header first
+  simple-is : (reading : TypeReading C) → ReadsSimple view.classes place.header first reading
+      → reading ≡ simple_type view.classes place.header first
   simple-is = (simple-answered view.classes ordered.classes place.header first).only
 
   -- ---- variables
 
-  no_variable : (read : Found (Variable C M)) → variable view place first ≡ read → ((x : Variable C M) → ¬ (read ≡ found x))
+  no_variable : (reading : Found (Variable C M)) → variable view place first ≡ reading → ((x : Variable C M) → ¬ (reading ≡ found x))
       → IsNoVariable view place first
-  no_variable read is not x reads = not x (sym is ∙ sym ((variable-answered view ordered place first).only (found x) reads))
+  no_variable reading is not x reads = not x (sym is ∙ sym ((variable-answered view ordered place first).only (found x) reads))
 
-  no_variable-or : IsNoVariable view place first → (otherwise : Leftmost C M) → variable_or (variable view place first) otherwise ≡ otherwise
+  no_variable-or : IsNoVariable view place first → (otherwise : Leftmost C M)
+      → variable_or (variable view place first) otherwise ≡ otherwise
   no_variable-or none otherwise = by_read (variable view place first) (variable-answered view ordered place first).holds where
-    by_read : (read : Found (Variable C M)) → ReadsVariable view place first read → variable_or read otherwise ≡ otherwise
+    by_read : (reading : Found (Variable C M)) → ReadsVariable view place first reading → variable_or reading otherwise ≡ otherwise
     by_read (found x) reads = absurd (none x reads)
     by_read outside reads = refl
     by_read not_found reads = refl
 
   -- ---- what else it may be
 
-  reads_written : (text : Name) → IsNoVariable view place first → ReadsSimple view.classes place.header first (written text) → (o : Option (C × ℕ))
+  reads_written : (text : Name) → IsNoVariable view place first → ReadsSimple view.classes place.header first (written text)
+      → (o : Option (C × ℕ))
       → fewest view.classes first rest ≡ o → ReadsLeftmost view place first rest (class_or_outside o)
   reads_written text none (ReadsSimple.as_written a b c) None missing =
       ReadsLeftmost.as_written none (ReadsSimple.as_written a b c) (fewest-none view.classes ordered.classes first rest missing)
@@ -140,31 +149,35 @@ module _ {C M : Type 0} (view : View C M) (ordered : IsOrdered view) (place : Pl
       subst (λ key. ReadsLeftmost view place first rest (leftmost_class key (suc o.1))) answer.2
       (ReadsLeftmost.by_full_name none (ReadsSimple.as_written a b c) answer.1)
 
-  reads_type : (read : TypeReading C) → IsNoVariable view place first → ReadsSimple view.classes place.header first read
-      → ReadsLeftmost view place first rest (leftmost_type view.classes first rest read)
+  reads_type : (reading : TypeReading C) → IsNoVariable view place first → ReadsSimple view.classes place.header first reading
+      → ReadsLeftmost view place first rest (leftmost_type view.classes first rest reading)
   reads_type (class_read class) none r = ReadsLeftmost.by_class none r
   reads_type (imported full []) none r = ReadsLeftmost.by_import none r
   reads_type (imported full (b ∷ bs)) none r = elim r [ ]
   reads_type (written text) none r = reads_written text none r _ refl
   reads_type no_type none r = elim r [ ]
 
-  reads : (read : Found (Variable C M)) → variable view place first ≡ read
-      → ReadsLeftmost view place first rest (variable_or read (leftmost_type view.classes first rest (simple_type view.classes place.header first)))
-  reads (found x) is = ReadsLeftmost.by_variable (subst (ReadsVariable view place first) is (variable-answered view ordered place first).holds)
-  reads outside is = reads_type _ (no_variable outside is (λ x e. absurd cc)) (simple-answered view.classes ordered.classes place.header first).holds
+  reads : (reading : Found (Variable C M)) → variable view place first ≡ reading
+      → ReadsLeftmost view place first rest
+      (variable_or reading (leftmost_type view.classes first rest (simple_type view.classes place.header first)))
+  reads (found x) is =
+      ReadsLeftmost.by_variable (subst (ReadsVariable view place first) is (variable-answered view ordered place first).holds)
+  reads outside is =
+      reads_type _ (no_variable outside is (λ x e. absurd cc)) (simple-answered view.classes ordered.classes place.header first).holds
   reads not_found is = reads_type _ (no_variable not_found is (λ x e. absurd cc))
       (simple-answered view.classes ordered.classes place.header first).holds
 
   -- ---- and nothing more
 
-  by_type : (read : TypeReading C) → IsNoVariable view place first → ReadsSimple view.classes place.header first read
-      → leftmost view place first rest ≡ leftmost_type view.classes first rest read
-  by_type read none r =
+  by_type : (reading : TypeReading C) → IsNoVariable view place first → ReadsSimple view.classes place.header first reading
+      → leftmost view place first rest ≡ leftmost_type view.classes first rest reading
+  by_type reading none r =
       no_variable-or none (leftmost_type view.classes first rest (simple_type view.classes place.header first))
-      ∙ ap (leftmost_type view.classes first rest) (sym (simple-is read r))
+      ∙ ap (leftmost_type view.classes first rest) (sym (simple-is reading r))
 
   only : (reading : Leftmost C M) → ReadsLeftmost view place first rest reading → reading ≡ leftmost view place first rest
-  only reading (ReadsLeftmost.by_variable {variable = x} reads) = rw (sym ((variable-answered view ordered place first).only (found x) reads)) refl
+  only reading (ReadsLeftmost.by_variable {variable = x} reads) =
+      rw (sym ((variable-answered view ordered place first).only (found x) reads)) refl
   only reading (ReadsLeftmost.by_class none r) = sym (by_type _ none r)
   only reading (ReadsLeftmost.by_import none r) = sym (by_type _ none r)
   only reading (ReadsLeftmost.by_full_name {further = further} {class = c} none r fewest_names) =

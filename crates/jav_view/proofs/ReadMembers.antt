@@ -44,7 +44,8 @@ module _ {C M : Type 0} (view : View C M) (ordered : IsOrdered view) (class : C)
   ends_tests : Decides (ends_outside view class) (EndsOutside view class)
   ends_tests = ends_outside-decides view ordered.classes class
 
-  reads_field : (o : Option (ViewField C M)) → field_here ≡ o → (b : Bool) → ends_outside view class ≡ b → ReadsField view class name (found_or o b)
+  reads_field : (o : Option (ViewField C M)) → field_here ≡ o → (b : Bool) → ends_outside view class ≡ b
+      → ReadsField view class name (found_or o b)
   reads_field (Some field) is b ends = ReadsField.nearest (field-is field is)
   reads_field None none true ends = ReadsField.in_outside_class (field-none none) (ends_tests.0 ends)
   reads_field None none false ends = ReadsField.not_there (field-none none) (Decides-not ends_tests ends)
@@ -80,7 +81,11 @@ method_tests {C} {M} name arity d = (parts, whole) where
   parts is =
       let both = and_parts (not (is_constructor d.kind)) (bytes_eq d.name name && d.arity == arity) is in
       let rest = and_parts (bytes_eq d.name name) (d.arity == arity) both.1 in
-      record { is_method = not_constructor d.kind both.0; named = (bytes_eq-Decides d.name name).0 rest.0; takes = eqb-true d.arity arity rest.1 }
+      record {
+        is_method = not_constructor d.kind both.0;
+        named = (bytes_eq-Decides d.name name).0 rest.0;
+        takes = eqb-true d.arity arity rest.1;
+      }
 
   whole : IsMethod name arity d → is_method name arity d ≡ true
   whole is = and_from _ _ (constructor_not d.kind is.is_method)
@@ -109,7 +114,8 @@ module _ {C M : Type 0} (view : View C M) (ordered : IsOrdered view) (class : C)
   past_tests : Decides (ends_outside view class) (EndsOutside view class)
   past_tests = ends_outside-decides view ordered.classes class
 
-  reads_method : (o : Option (ViewDeclaration C M)) → method_here ≡ o → (a b : Bool) → ends_outside view class ≡ a → is_object_method name arity ≡ b
+  reads_method : (o : Option (ViewDeclaration C M)) → method_here ≡ o → (a b : Bool) → ends_outside view class ≡ a
+      → is_object_method name arity ≡ b
       → ReadsMethod view class name arity (found_or o (a || b))
   reads_method (Some d) is a b ends object = ReadsMethod.nearest (method-is d is)
   reads_method None none true b ends object = ReadsMethod.in_outside_class (method-none none) (past_tests.0 ends)
@@ -117,7 +123,8 @@ module _ {C M : Type 0} (view : View C M) (ordered : IsOrdered view) (class : C)
   reads_method None none false false ends object =
       ReadsMethod.not_there (method-none none) (Decides-not past_tests ends) (λ is. true≢false (sym is ∙ object))
 
-  only_method : (reading : Found (ViewDeclaration C M)) → ReadsMethod view class name arity reading → reading ≡ method_from view class name arity
+  only_method : (reading : Found (ViewDeclaration C M)) → ReadsMethod view class name arity reading
+      → reading ≡ method_from view class name arity
   only_method reading (ReadsMethod.nearest {declaration = d} is) = rw (is-method d is) refl
   only_method reading (ReadsMethod.in_outside_class none ends) = rw (none-method none, past_tests.1 ends) refl
   only_method reading (ReadsMethod.of_object none object) = rw (none-method none, object, or_right (ends_outside view class) true refl) refl
@@ -150,7 +157,8 @@ module _ {C M : Type 0} (view : View C M) (ordered : IsOrdered view) (class : C)
   out_tests = is_outside-decides view class
 
 module _ {C M : Type 0} (view : View C M) (ordered : IsOrdered view) (class : C) (name : Name) (arity : ℕ) where
-  reads_super : (o : Option C) → class_above view class ≡ o → (a b : Bool) → is_outside (view.superclass class) ≡ a → is_object_method name arity ≡ b
+  reads_super : (o : Option C) → class_above view class ≡ o → (a b : Bool) → is_outside (view.superclass class) ≡ a
+      → is_object_method name arity ≡ b
       → ReadsSuperMethod view class name arity (found_above o (λ above. method_from view above name arity) (a || b))
   reads_super (Some above) is a b out object =
       ReadsSuperMethod.from_above (class_above-is view ordered.classes class above is) (method-answered view ordered above name arity).holds
@@ -159,7 +167,8 @@ module _ {C M : Type 0} (view : View C M) (ordered : IsOrdered view) (class : C)
   reads_super None none false false out object =
       ReadsSuperMethod.not_there (no_superclass view ordered class none out) (λ is. true≢false (sym is ∙ object))
 
-  only_super : (reading : Found (ViewDeclaration C M)) → ReadsSuperMethod view class name arity reading → reading ≡ super_method view class name arity
+  only_super : (reading : Found (ViewDeclaration C M)) → ReadsSuperMethod view class name arity reading
+      → reading ≡ super_method view class name arity
   only_super reading (ReadsSuperMethod.from_above {above = above} extends reads) =
       rw (is-class_above view ordered.classes class above extends) ((method-answered view ordered above name arity).only reading reads)
   only_super reading (ReadsSuperMethod.in_outside_class extends) =
@@ -278,7 +287,8 @@ module _ {C M : Type 0} (view : View C M) (ordered : IsOrdered view) (class : C)
   reads_above : (o : Option C) → class_above view class ≡ o → (b : Bool) → is_outside (view.superclass class) ≡ b
       → ReadsSuperConstructor view class arity (found_above o (λ above. constructor_from view above arity) b)
   reads_above (Some above) is b out =
-      ReadsSuperConstructor.from_above (class_above-is view ordered.classes class above is) (constructor-answered view ordered above arity).holds
+      ReadsSuperConstructor.from_above (class_above-is view ordered.classes class above is)
+      (constructor-answered view ordered above arity).holds
   reads_above None none true out = ReadsSuperConstructor.in_outside_class ((out_tests view ordered class).0 out)
   reads_above None none false out = ReadsSuperConstructor.not_there (no_superclass view ordered class none out)
 

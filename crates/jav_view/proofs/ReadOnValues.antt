@@ -11,7 +11,7 @@ use Rattle.jav_view.proofs.ReadMembers.{field-answered, method-answered}
 -- ---- on a value
 
 module _ {X : Type 0} (is_static : X → Bool) where
-  instance-is : (read : Found X) → OnInstance is_static read (on_instance is_static read)
+  instance-is : (reading : Found X) → OnInstance is_static reading (on_instance is_static reading)
   instance-is (found x) = by_test (is_static x) refl where
     by_test : (b : Bool) → is_static x ≡ b → OnInstance is_static (found x) (cond b (static_member x) (member x))
     by_test true is = OnInstance.on_static is
@@ -19,13 +19,14 @@ module _ {X : Type 0} (is_static : X → Bool) where
   instance-is outside = OnInstance.in_outside_class
   instance-is not_found = OnInstance.not_there
 
-  is-instance : (read : Found X) (on : OnValue X) → OnInstance is_static read on → on ≡ on_instance is_static read
-  is-instance (found x) on (OnInstance.on_static is) = rw is refl
-  is-instance (found x) on (OnInstance.on_instance is) = rw is refl
-  is-instance outside on OnInstance.in_outside_class = refl
-  is-instance not_found on OnInstance.not_there = refl
+  is-instance : (reading : Found X) (answer : OnValue X) → OnInstance is_static reading answer → answer ≡ on_instance is_static reading
+  is-instance (found x) answer (OnInstance.on_static is) = rw is refl
+  is-instance (found x) answer (OnInstance.on_instance is) = rw is refl
+  is-instance outside answer OnInstance.in_outside_class = refl
+  is-instance not_found answer OnInstance.not_there = refl
 
-module _ {C X : Type 0} (Reads : C → Found X → Type 0) (look_up : C → Found X) (answered : (class : C) → IsTheAnswer (Reads class) (look_up class))
+module _ {C X : Type 0} (Reads : C → Found X → Type 0) (look_up : C → Found X)
+    (answered : (class : C) → IsTheAnswer (Reads class) (look_up class))
     (is_static : X → Bool) (arrays_have : Bool) where
   reads : (type : StaticType C) → ReadsOn Reads is_static arrays_have type (on_value look_up is_static arrays_have type)
   reads (class_value class) = ReadsOn.of_class (answered class).holds (instance-is is_static (look_up class))
@@ -42,8 +43,8 @@ module _ {C X : Type 0} (Reads : C → Found X → Type 0) (look_up : C → Foun
 
   only : (type : StaticType C) (reading : OnValue X) → ReadsOn Reads is_static arrays_have type reading
       → reading ≡ on_value look_up is_static arrays_have type
-  only type reading (ReadsOn.of_class {class = class} {reading = read} reads_class on) =
-      is-instance is_static read reading on ∙ ap (on_instance is_static) ((answered class).only read reads_class)
+  only type reading (ReadsOn.of_class {class = class} {reading = in_class} reads_class of_instance) =
+      is-instance is_static in_class reading of_instance ∙ ap (on_instance is_static) ((answered class).only in_class reads_class)
   only type reading ReadsOn.of_outside = refl
   only type reading (ReadsOn.has_array is) = rw is refl
   only type reading (ReadsOn.has_no_array is) = rw is refl
@@ -53,7 +54,8 @@ module _ {C X : Type 0} (Reads : C → Found X → Type 0) (look_up : C → Foun
   only type reading ReadsOn.of_mixed = refl
   only type reading ReadsOn.of_unread = refl
 
-  pub on_value-answered : (type : StaticType C) → IsTheAnswer (ReadsOn Reads is_static arrays_have type) (on_value look_up is_static arrays_have type)
+  pub on_value-answered : (type : StaticType C)
+      → IsTheAnswer (ReadsOn Reads is_static arrays_have type) (on_value look_up is_static arrays_have type)
   on_value-answered type = record { holds = reads type; only = only type }
 
 module _ {C M : Type 0} (view : View C M) (ordered : IsOrdered view) where
@@ -63,7 +65,8 @@ module _ {C M : Type 0} (view : View C M) (ordered : IsOrdered view) where
 
   pub method_on-answered : (name : Name) (arity : ℕ) (type : StaticType C)
       → IsTheAnswer (ReadsMethodOn view name arity type) (method_on view name arity type)
-  method_on-answered name arity = on_value-answered (λ class. ReadsMethod view class name arity) (λ class. method_from view class name arity)
+  method_on-answered name arity =
+      on_value-answered (λ class. ReadsMethod view class name arity) (λ class. method_from view class name arity)
       (λ class. method-answered view ordered class name arity) (λ d. is_static_kind d.kind) (is_object_method name arity)
 
 -- ---- an index
@@ -94,7 +97,7 @@ index_on-answered type = record { holds = index-is type; only = is-index type }
 -- ---- through a class name
 
 module _ {X : Type 0} (Reads : Found X → Type 0) (answer : Found X) (answered : IsTheAnswer Reads answer) (is_static : X → Bool) where
-  through : (read : Found X) → answer ≡ read → Through Reads is_static (static_of is_static read)
+  through : (reading : Found X) → answer ≡ reading → Through Reads is_static (static_of is_static reading)
   through (found x) is = by_test (is_static x) refl where
     by_test : (b : Bool) → is_static x ≡ b → Through Reads is_static (cond b (Some x) None)
     by_test true static = Through.static_found (subst Reads is answered.holds) static
@@ -102,14 +105,15 @@ module _ {X : Type 0} (Reads : Found X → Type 0) (answer : Found X) (answered 
       instance : (y : X) → Reads (found y) → is_static y ≡ false
       instance y reads_y = let same : found x ≡ found y = sym is ∙ sym (answered.only (found y) reads_y) in
           ap is_static (let back : y ≡ x = cc in back) ∙ static
-  through outside is = Through.none_static (λ y reads_y. absurd (let e : outside ≡ found y = sym is ∙ sym (answered.only (found y) reads_y) in cc))
+  through outside is =
+      Through.none_static (λ y reads_y. absurd (let e : outside ≡ found y = sym is ∙ sym (answered.only (found y) reads_y) in cc))
   through not_found is =
       Through.none_static (λ y reads_y. absurd (let e : not_found ≡ found y = sym is ∙ sym (answered.only (found y) reads_y) in cc))
 
   only_through : (reading : Option X) → Through Reads is_static reading → reading ≡ static_of is_static answer
   only_through reading (Through.static_found {x = x} reads_x static) = rw (sym (answered.only (found x) reads_x), static) refl
   only_through reading (Through.none_static instance) = by_read answer answered.holds where
-    by_read : (read : Found X) → Reads read → None ≡ static_of is_static read
+    by_read : (reading : Found X) → Reads reading → None ≡ static_of is_static reading
     by_read (found x) reads_x = rw (instance x reads_x) refl
     by_read outside reads_x = refl
     by_read not_found reads_x = refl
@@ -120,7 +124,8 @@ module _ {X : Type 0} (Reads : Found X → Type 0) (answer : Found X) (answered 
 module _ {C M : Type 0} (view : View C M) (ordered : IsOrdered view) (class : C) (name : Name) where
   pub static_field-answered : IsTheAnswer (ReadsStaticField view class name) (field_through view class name)
   static_field-answered =
-      through-answered (ReadsField view class name) (field_from view class name) (field-answered view ordered class name) (λ field. field.is_static)
+      through-answered (ReadsField view class name) (field_from view class name) (field-answered view ordered class name)
+      (λ field. field.is_static)
 
   pub static_method-answered : (arity : ℕ) → IsTheAnswer (ReadsStaticMethod view class name arity) (method_through view class name arity)
   static_method-answered arity =

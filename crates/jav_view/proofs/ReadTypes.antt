@@ -34,20 +34,24 @@ none-class_named classes name =
 
 module _ (imports : Names) (name : Name) where
   pub import_of-is : (full : Name) → import_of imports name ≡ Some full → (place : ℕ) × IsImport imports name place full
-  import_of-is = find-first (λ q. simple_name q ≡ name) (λ q. bytes_eq (simple_name q) name) (λ q. bytes_eq-Decides (simple_name q) name) imports
+  import_of-is =
+      find-first (λ q. simple_name q ≡ name) (λ q. bytes_eq (simple_name q) name) (λ q. bytes_eq-Decides (simple_name q) name) imports
 
   pub is-import_of : (place : ℕ) (full : Name) → IsImport imports name place full → import_of imports name ≡ Some full
-  is-import_of = first-find (λ q. simple_name q ≡ name) (λ q. bytes_eq (simple_name q) name) (λ q. bytes_eq-Decides (simple_name q) name) imports
+  is-import_of =
+      first-find (λ q. simple_name q ≡ name) (λ q. bytes_eq (simple_name q) name) (λ q. bytes_eq-Decides (simple_name q) name) imports
 
   pub import_of-none : import_of imports name ≡ None → NoImport imports name
-  import_of-none = find-none (λ q. simple_name q ≡ name) (λ q. bytes_eq (simple_name q) name) (λ q. bytes_eq-Decides (simple_name q) name) imports
+  import_of-none =
+      find-none (λ q. simple_name q ≡ name) (λ q. bytes_eq (simple_name q) name) (λ q. bytes_eq-Decides (simple_name q) name) imports
 
   pub none-import_of : NoImport imports name → import_of imports name ≡ None
   none-import_of = find-holds_of_none (λ q. simple_name q ≡ name) (λ q. bytes_eq (simple_name q) name)
       (λ q. bytes_eq-Decides (simple_name q) name) imports
 
 module _ {C : Type 0} (name : Name) where
-  pub own_named-is : (own : Option (ViewClass C)) (class : ViewClass C) → own_named own name ≡ Some class → (own ≡ Some class) × (class.name ≡ name)
+  pub own_named-is : (own : Option (ViewClass C)) (class : ViewClass C) → own_named own name ≡ Some class
+      → (own ≡ Some class) × (class.name ≡ name)
   own_named-is None class is = absurd cc
   own_named-is (Some own) class is = by_test (bytes_eq own.name name) refl is where
     by_test : (b : Bool) → bytes_eq own.name name ≡ b → cond b (Some own) None ≡ Some class → (Some own ≡ Some class) × (class.name ≡ name)
@@ -55,15 +59,18 @@ module _ {C : Type 0} (name : Name) where
         (is, subst (λ (c : ViewClass C). c.name ≡ name) (let at : own ≡ class = cc in at) ((bytes_eq-Decides own.name name).0 same))
     by_test false differs is = absurd cc
 
-  pub is-own_named : (own : Option (ViewClass C)) (class : ViewClass C) → own ≡ Some class → class.name ≡ name → own_named own name ≡ Some class
+  pub is-own_named : (own : Option (ViewClass C)) (class : ViewClass C) → own ≡ Some class → class.name ≡ name
+      → own_named own name ≡ Some class
   is-own_named own class is named = ap (λ o. own_named o name) is ∙ (rw ((bytes_eq-Decides class.name name).1 named) refl)
 
-  pub own_named-none : (own : Option (ViewClass C)) → own_named own name ≡ None → (class : ViewClass C) → own ≡ Some class → class.name ≢ name
+  pub own_named-none : (own : Option (ViewClass C)) → own_named own name ≡ None → (class : ViewClass C) → own ≡ Some class
+      → class.name ≢ name
   own_named-none own is class has named = absurd (none_some (sym is ∙ is-own_named own class has named)) where
     none_some : {X : Type 0} {x : X} → None ≡ Some x → ⊥
     none_some e = absurd cc
 
-  pub none-own_named : (own : Option (ViewClass C)) → ((class : ViewClass C) → own ≡ Some class → class.name ≢ name) → own_named own name ≡ None
+  pub none-own_named : (own : Option (ViewClass C)) → ((class : ViewClass C) → own ≡ Some class → class.name ≢ name)
+      → own_named own name ≡ None
   none-own_named None not = refl
   none-own_named (Some own) not = rw (Decides-fails (bytes_eq-Decides own.name name) (not own refl)) refl
 
@@ -79,7 +86,8 @@ module _ {C : Type 0} (classes : Classes C) (ordered : AreOrdered classes) (head
   by_package : import_of header.imports name ≡ None → own_named header.own name ≡ None → (o : Option (ViewClass C))
       → class_named classes (joined header.«package» (name ∷ [])) ≡ o → ReadsSimple classes header name (class_or_written o name)
   by_package no_import not_own None none =
-      ReadsSimple.as_written (import_of-none header.imports name no_import) (own_named-none name header.own not_own) (class_named-none classes _ none)
+      ReadsSimple.as_written (import_of-none header.imports name no_import) (own_named-none name header.own not_own)
+      (class_named-none classes _ none)
   by_package no_import not_own (Some class) has =
       ReadsSimple.in_package (import_of-none header.imports name no_import) (own_named-none name header.own not_own)
       (class_named-is classes ordered _ class has)
@@ -103,7 +111,11 @@ module _ {C : Type 0} (classes : Classes C) (ordered : AreOrdered classes) (head
   only reading (ReadsSimple.own_class {class = class} no_import is named) =
       rw (none-import_of header.imports name no_import, is-own_named name header.own class is named) refl
   only reading (ReadsSimple.in_package {class = class} no_import not_own named) =
-      rw (none-import_of header.imports name no_import, none-own_named name header.own not_own, is-class_named classes ordered _ class named) refl
+      rw (
+        none-import_of header.imports name no_import,
+        none-own_named name header.own not_own,
+        is-class_named classes ordered _ class named,
+      ) refl
   only reading (ReadsSimple.as_written no_import not_own none) =
       rw (none-import_of header.imports name no_import, none-own_named name header.own not_own, none-class_named classes _ none) refl
 
@@ -121,8 +133,8 @@ module _ {C : Type 0} (classes : Classes C) (ordered : AreOrdered classes) (head
   by_whole text next rest (ReadsSimple.as_written no_import not_own none) (Some class) has =
       ReadsType.whole_class (ReadsSimple.as_written no_import not_own none) (class_named-is classes ordered _ class has)
 
-  reads_more : (next : Name) (rest : Names) (read : TypeReading C) → ReadsSimple classes header first read
-      → ReadsType classes header first (next ∷ rest) (with_more classes first next rest read)
+  reads_more : (next : Name) (rest : Names) (reading : TypeReading C) → ReadsSimple classes header first reading
+      → ReadsType classes header first (next ∷ rest) (with_more classes first next rest reading)
   reads_more next rest (class_read class) r = ReadsType.in_class r
   reads_more next rest (imported full []) r = ReadsType.in_import r
   reads_more next rest (imported full (b ∷ bs)) r = elim r [ ]

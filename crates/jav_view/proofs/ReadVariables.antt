@@ -82,7 +82,8 @@ module _ (name : Name) where
   last_place-none : (names : Names) → last_place name names ≡ None → IsAbsent names name
   last_place-none [] is = All-nil (λ z. ¬ Is z)
   last_place-none (next ∷ rest) is = by_rest (last_place name rest) refl is (last_place-none rest) where
-    by_test : IsAbsent rest name → (b : Bool) → bytes_eq next name ≡ b → cond {A = Option ℕ} b (Some 0) None ≡ None → IsAbsent (next ∷ rest) name
+    by_test : IsAbsent rest name → (b : Bool) → bytes_eq next name ≡ b → cond {A = Option ℕ} b (Some 0) None ≡ None
+        → IsAbsent (next ∷ rest) name
     by_test none true same at = absurd cc
     by_test none false differs at = All-cons (λ z. ¬ Is z) next rest (Decides-not (bytes_eq-Decides next name) differs) none
 
@@ -141,8 +142,9 @@ module _ (name : Name) where
 -- ---- variables
 
 module _ {C M : Type 0} (view : View C M) (ordered : IsOrdered view) (place : Place C) (name : Name) where
-  reads_field : IsAbsent place.locals name → IsAbsent place.params name → (read : Found (ViewField C M)) → ReadsField view place.class name read
-      → ReadsVariable view place name (field_found read)
+  reads_field : IsAbsent place.locals name → IsAbsent place.params name → (reading : Found (ViewField C M))
+      → ReadsField view place.class name reading
+      → ReadsVariable view place name (field_found reading)
   reads_field no_local no_param (found field) reads = ReadsVariable.nearest_field no_local no_param reads
   reads_field no_local no_param outside reads = ReadsVariable.in_outside_class no_local no_param reads
   reads_field no_local no_param not_found reads = ReadsVariable.not_there no_local no_param reads
@@ -150,11 +152,12 @@ module _ {C M : Type 0} (view : View C M) (ordered : IsOrdered view) (place : Pl
   reads : (local : Option ℕ) → last_place name place.locals ≡ local → (param : Option ℕ) → first_place name place.params ≡ param
       → ReadsVariable view place name (local_or local param (field_from view place.class name))
   reads (Some k) is param at = ReadsVariable.nearest_local (last_place-is name place.locals k is)
-  reads None none (Some k) is = ReadsVariable.first_parameter (last_place-none name place.locals none) (first_place-is name place.params k is)
+  reads None none (Some k) is =
+      ReadsVariable.first_parameter (last_place-none name place.locals none) (first_place-is name place.params k is)
   reads None none None none' = reads_field (last_place-none name place.locals none) (first_place-none name place.params none') _
       (field-answered view ordered place.class name).holds
 
-  field_only : (read : Found (ViewField C M)) → ReadsField view place.class name read → read ≡ field_from view place.class name
+  field_only : (reading : Found (ViewField C M)) → ReadsField view place.class name reading → reading ≡ field_from view place.class name
   field_only = (field-answered view ordered place.class name).only
 
   only : (reading : Found (Variable C M)) → ReadsVariable view place name reading → reading ≡ variable view place name

@@ -64,11 +64,13 @@ classes-from n (u ∷ units) = (
       (map class_of (enumerate_from (n + 1) units)) (classes-from (n + 1) units),
 )
 
-classes-ascend : (n : ℕ) (units : List Source) → IsStrictlySortedBy (on (λ (c : ViewClass ℕ). c.key) nat_cmp) (map class_of (enumerate_from n units))
+classes-ascend : (n : ℕ) (units : List Source)
+    → IsStrictlySortedBy (on (λ (c : ViewClass ℕ). c.key) nat_cmp) (map class_of (enumerate_from n units))
 unfolding IsStrictlySortedBy
 classes-ascend n [] = tt
 classes-ascend n (u ∷ units) = (
-  each-weaker (λ (c : ViewClass ℕ). n + 1 ≤ c.key) (λ (c : ViewClass ℕ). nat_cmp n c.key ≡ Less) (λ c above. less n c.key (omega (arith, above)))
+  each-weaker (λ (c : ViewClass ℕ). n + 1 ≤ c.key) (λ (c : ViewClass ℕ). nat_cmp n c.key ≡ Less)
+      (λ c above. less n c.key (omega (arith, above)))
       (map class_of (enumerate_from (n + 1) units)) (classes-from (n + 1) units),
   classes-ascend (n + 1) units,
 )
@@ -101,13 +103,16 @@ module _ {X : Type 0} (key : X → MemberKey) where
           by_made : (o : Option X) → made (n, m) ≡ o → AllByRecursion (IsFrom unit n) (filter_map made (enumerate_from (n + 1) members))
               → AllByRecursion (IsFrom unit n) (cons_option o (filter_map made (enumerate_from (n + 1) members)))
           by_made None none rest = rest
-          by_made (Some x) is rest = ((ap (λ k. k.unit) (keyed n m x is), omega (arith, ap (λ (k : MemberKey). k.member) (keyed n m x is))), rest)
+          by_made (Some x) is rest =
+              ((ap (λ k. k.unit) (keyed n m x is), omega (arith, ap (λ (k : MemberKey). k.member) (keyed n m x is))), rest)
 
-    members-ascend : (n : ℕ) (members : List Member) → IsStrictlySortedBy (on key member_key_cmp) (filter_map made (enumerate_from n members))
+    members-ascend : (n : ℕ) (members : List Member)
+        → IsStrictlySortedBy (on key member_key_cmp) (filter_map made (enumerate_from n members))
     unfolding IsStrictlySortedBy
     members-ascend n [] = tt
     members-ascend n (m ∷ members) = by_made (made (n, m)) refl (members-ascend (n + 1) members) where
-      by_made : (o : Option X) → made (n, m) ≡ o → IsStrictlySortedBy (on key member_key_cmp) (filter_map made (enumerate_from (n + 1) members))
+      by_made : (o : Option X) → made (n, m) ≡ o
+          → IsStrictlySortedBy (on key member_key_cmp) (filter_map made (enumerate_from (n + 1) members))
           → IsStrictlySortedBy (on key member_key_cmp) (cons_option o (filter_map made (enumerate_from (n + 1) members)))
       by_made None none up = up
       by_made (Some x) is up = (
@@ -138,9 +143,11 @@ module _ {X : Type 0} (key : X → MemberKey) where
     units-ascend n (u ∷ units) = ascending-append (on key member_key_cmp) (of_unit (n, u)) (flat_map of_unit (enumerate_from (n + 1) units))
         (members-ascend n (made (n, u)) (keyed (n, u)) 0 u.class.members) (units-ascend (n + 1) units)
         (each-weaker (IsFrom n 0)
-        (λ x. AllByRecursion (λ y. on key member_key_cmp x y ≡ Less) (flat_map of_unit (enumerate_from (n + 1) units))) before (of_unit (n, u))
+        (λ x. AllByRecursion (λ y. on key member_key_cmp x y ≡ Less) (flat_map of_unit (enumerate_from (n + 1) units))) before
+        (of_unit (n, u))
         (members-from n (made (n, u)) (keyed (n, u)) 0 u.class.members)) where
-          before : (x : X) → IsFrom n 0 x → AllByRecursion (λ y. on key member_key_cmp x y ≡ Less) (flat_map of_unit (enumerate_from (n + 1) units))
+          before : (x : X) → IsFrom n 0 x
+              → AllByRecursion (λ y. on key member_key_cmp x y ≡ Less) (flat_map of_unit (enumerate_from (n + 1) units))
           before x from = each-weaker (λ y. n + 1 ≤ (key y).unit) (λ y. on key member_key_cmp x y ≡ Less)
               (λ y above. less-unit x y (omega (arith, from.0, above)))
               (flat_map of_unit (enumerate_from (n + 1) units)) (units-from (n + 1) units)

@@ -11,11 +11,12 @@ use Rattle.jav_view.proofs.Lists.{stands_where, stands_nowhere, Decides-not, lis
 -- ---- tests of keys
 
 pub same_key : {K : Type 0} {cmp : K → K → Ordering} → IsKeyOrder cmp → (a b : K) → Decides (is_eq (cmp a b)) (a ≡ b)
-same_key {K} {cmp} order a b = (by_order (cmp a b) refl, λ same. ap is_eq (subst (λ c. cmp a c ≡ Equal) same (tied_itself order.total a))) where
-  by_order : (o : Ordering) → cmp a b ≡ o → is_eq o ≡ true → a ≡ b
-  by_order Less is eq = absurd (true≢false (sym eq))
-  by_order Equal is eq = order.same a b is
-  by_order Greater is eq = absurd (true≢false (sym eq))
+same_key {K} {cmp} order a b =
+    (by_order (cmp a b) refl, λ same. ap is_eq (subst (λ c. cmp a c ≡ Equal) same (tied_itself order.total a))) where
+      by_order : (o : Ordering) → cmp a b ≡ o → is_eq o ≡ true → a ≡ b
+      by_order Less is eq = absurd (true≢false (sym eq))
+      by_order Equal is eq = order.same a b is
+      by_order Greater is eq = absurd (true≢false (sym eq))
 
 module _ {C : Type 0} (classes : Classes C) (ordered : AreOrdered classes) where
   pub has_class-decides : (key : C) → Decides (has_class classes key) (HasClass classes key)
@@ -66,16 +67,18 @@ module _ {C M : Type 0} (view : View C M) (ordered : AreOrdered view.classes) wh
   pub one_above : (class a b : C) → Extends view class a → Extends view class b → a ≡ b
   one_above class a b extends-a extends-b = some_class a b (sym extends-a.named ∙ extends-b.named)
 
-pub is_outside-decides : {C M : Type 0} (view : View C M) (class : C) → Decides (is_outside (view.superclass class)) (ExtendsOutside view class)
-is_outside-decides {C} {M} view class = (by_type (view.superclass class) refl, λ (extends : ExtendsOutside view class). rw extends.named refl) where
-  by_type : (t : Option (ViewType C)) → view.superclass class ≡ t → is_outside t ≡ true → ExtendsOutside view class
-  by_type (Some (outside_type name)) named is = record { name = name; named = named }
-  by_type None named is = absurd (true≢false (sym is))
-  by_type (Some (class_type a)) named is = absurd (true≢false (sym is))
-  by_type (Some (primitive_type name)) named is = absurd (true≢false (sym is))
-  by_type (Some void_type) named is = absurd (true≢false (sym is))
-  by_type (Some (array_type item)) named is = absurd (true≢false (sym is))
-  by_type (Some unread_type) named is = absurd (true≢false (sym is))
+pub is_outside-decides : {C M : Type 0} (view : View C M) (class : C)
+    → Decides (is_outside (view.superclass class)) (ExtendsOutside view class)
+is_outside-decides {C} {M} view class =
+    (by_type (view.superclass class) refl, λ (extends : ExtendsOutside view class). rw extends.named refl) where
+      by_type : (t : Option (ViewType C)) → view.superclass class ≡ t → is_outside t ≡ true → ExtendsOutside view class
+      by_type (Some (outside_type name)) named is = record { name = name; named = named }
+      by_type None named is = absurd (true≢false (sym is))
+      by_type (Some (class_type a)) named is = absurd (true≢false (sym is))
+      by_type (Some (primitive_type name)) named is = absurd (true≢false (sym is))
+      by_type (Some void_type) named is = absurd (true≢false (sym is))
+      by_type (Some (array_type item)) named is = absurd (true≢false (sym is))
+      by_type (Some unread_type) named is = absurd (true≢false (sym is))
 
 -- ---- how many classes are not met yet
 
@@ -93,15 +96,16 @@ module _ {X : Type 0} (p q : X → Bool) (stricter : (x : X) → q x ≡ true �
 
   pub fewer : (xs : List X) (y : X) → Contains xs y → p y ≡ true → q y ≡ false → length (filter q xs) < length (filter p xs)
   fewer [] y of-y passes fails = absurd (stands_nowhere y of-y)
-  fewer (x ∷ xs) y of-y passes fails = by_tests (p x) (q x) refl refl (stands_where x y xs of-y) (λ later. fewer xs y later passes fails) where
-    by_tests : (a b : Bool) → p x ≡ a → q x ≡ b → (x ≡ y) ⊎ Contains xs y → (Contains xs y → length (filter q xs) < length (filter p xs))
-        → length (cond b (x ∷ filter q xs) (filter q xs)) < length (cond a (x ∷ filter p xs) (filter p xs))
-    by_tests true true is-p is-q (inl same) more = absurd (true≢false (sym is-q ∙ ap q same ∙ fails))
-    by_tests true true is-p is-q (inr later) more = omega (arith, more later)
-    by_tests true false is-p is-q where-y more = omega (arith, fewer-or_same xs)
-    by_tests false true is-p is-q where-y more = absurd (true≢false (sym (stricter x is-q) ∙ is-p))
-    by_tests false false is-p is-q (inl same) more = absurd (true≢false (sym passes ∙ ap p (sym same) ∙ is-p))
-    by_tests false false is-p is-q (inr later) more = more later
+  fewer (x ∷ xs) y of-y passes fails =
+      by_tests (p x) (q x) refl refl (stands_where x y xs of-y) (λ later. fewer xs y later passes fails) where
+        by_tests : (a b : Bool) → p x ≡ a → q x ≡ b → (x ≡ y) ⊎ Contains xs y → (Contains xs y → length (filter q xs) < length (filter p xs))
+            → length (cond b (x ∷ filter q xs) (filter q xs)) < length (cond a (x ∷ filter p xs) (filter p xs))
+        by_tests true true is-p is-q (inl same) more = absurd (true≢false (sym is-q ∙ ap q same ∙ fails))
+        by_tests true true is-p is-q (inr later) more = omega (arith, more later)
+        by_tests true false is-p is-q where-y more = omega (arith, fewer-or_same xs)
+        by_tests false true is-p is-q where-y more = absurd (true≢false (sym (stricter x is-q) ∙ is-p))
+        by_tests false false is-p is-q (inl same) more = absurd (true≢false (sym passes ∙ ap p (sym same) ∙ is-p))
+        by_tests false false is-p is-q (inr later) more = more later
 
 pub some_pass : {X : Type 0} (p : X → Bool) (xs : List X) (y : X) → Contains xs y → p y ≡ true → 0 < length (filter p xs)
 some_pass p [] y of-y passes = absurd (stands_nowhere y of-y)
@@ -127,7 +131,8 @@ not_met classes met = length (filter (λ x. not (is_met classes met x.key)) clas
 
 module _ {C : Type 0} (classes : Classes C) (ordered : AreOrdered classes) where
   -- a class that was not met is among these, and is not any more once it is met
-  not_met-fewer : (met : List C) (class : C) → HasClass classes class → is_met classes met class ≡ false → not_met classes (class ∷ met) < not_met classes met
+  not_met-fewer : (met : List C) (class : C) → HasClass classes class → is_met classes met class ≡ false
+      → not_met classes (class ∷ met) < not_met classes met
   not_met-fewer met class has new = fewer (λ x. not (is_met classes met x.key)) (λ x. not (is_met classes (class ∷ met) x.key))
       (λ x is. not_or (is_eq (classes.cmp class x.key)) (is_met classes met x.key) is) classes.items has.class has.stands
       (ap not (ap (is_met classes met) has.is ∙ new)) (ap not (seen has.class.key has.is)) where
@@ -150,7 +155,8 @@ module _ {C M : Type 0} (view : View C M) (ordered : AreOrdered view.classes) wh
     by_test : (b : Bool) → is_met view.classes met above ≡ b → Contains met above
     by_test true seen = (is_met-decides view.classes ordered met above).0 seen
     by_test false new =
-        let next : unmet view.classes met (class_above view class) ≡ Some above = rw (is-class_above view ordered class above extends, new) refl in
+        let next : unmet view.classes met (class_above view class) ≡ Some above =
+        rw (is-class_above view ordered class above extends, new) refl in
         absurd (let none : None ≡ Some above = sym is ∙ next in cc)
 
   -- and where it is one, that is the superclass and was not met
@@ -170,7 +176,8 @@ module _ {C M : Type 0} (view : View C M) (ordered : AreOrdered view.classes) wh
     by_above (Some a) named is = by_test a named _ refl is
 
   -- with as many steps as there are classes not met, or more, the list is the way
-  pub follows : (steps : ℕ) (met : List C) (class : C) → not_met view.classes (class ∷ met) ≤ steps → Follows view met class (way_from steps view met class)
+  pub follows : (steps : ℕ) (met : List C) (class : C) → not_met view.classes (class ∷ met) ≤ steps
+      → Follows view met class (way_from steps view met class)
   follows zero met class none_more = Follows.end ends where
     ends : (above : C) → Extends view class above → Contains (class ∷ met) above
     ends above extends = by_test (is_met view.classes (class ∷ met) above) refl where
@@ -180,7 +187,8 @@ module _ {C M : Type 0} (view : View C M) (ordered : AreOrdered view.classes) wh
   follows (suc steps) met class few_more =
       by_next (unmet view.classes (class ∷ met) (class_above view class)) refl (λ above. follows steps (class ∷ met) above) where
         by_next : (o : Option C) → unmet view.classes (class ∷ met) (class_above view class) ≡ o
-            → ((above : C) → not_met view.classes (above ∷ class ∷ met) ≤ steps → Follows view (class ∷ met) above (way_from steps view (class ∷ met) above))
+            → ((above : C) → not_met view.classes (above ∷ class ∷ met) ≤ steps
+            → Follows view (class ∷ met) above (way_from steps view (class ∷ met) above))
             → Follows view met class (class ∷ each_above o (λ above. way_from steps view (class ∷ met) above))
         by_next None is more = Follows.end (stops (class ∷ met) class is)
         by_next (Some above) is more =
@@ -191,11 +199,14 @@ module _ {C M : Type 0} (view : View C M) (ordered : AreOrdered view.classes) wh
 
   -- the way is there
   pub way-is : (class : C) → Way view class (way view class)
-  way-is class = follows (length view.classes.items) [] class (filter-length (λ x. not (is_met view.classes (class ∷ []) x.key)) view.classes.items)
+  way-is class =
+      follows (length view.classes.items) [] class (filter-length (λ x. not (is_met view.classes (class ∷ []) x.key)) view.classes.items)
 
   -- and there is one
-  pub one_way : {met : List C} {class : C} {first second : List C} → Follows view met class first → Follows view met class second → first ≡ second
-  one_way (Follows.up {met = met} {class = class} {above = above} extends new more) (Follows.up {way = way'} {above = above'} extends' new' more') =
+  pub one_way : {met : List C} {class : C} {first second : List C} → Follows view met class first → Follows view met class second
+      → first ≡ second
+  one_way (Follows.up {met = met} {class = class} {above = above} extends new more)
+      (Follows.up {way = way'} {above = above'} extends' new' more') =
       let same = one_above view ordered class above' above extends' extends in
       ap (λ w. class ∷ w) (one_way more (subst (λ a. Follows view (class ∷ met) a way') same more'))
   one_way (Follows.up {above = above} extends new more) (Follows.end ends) = absurd (new (ends above extends))

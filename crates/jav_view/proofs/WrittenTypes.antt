@@ -24,7 +24,8 @@ module _ {C : Type 0} (classes : Classes C) (header : Header C) where
       ∙ fold-roll-TypeName (ViewType C) (type_step classes header) (TypeName-F.ArrayOf item)
 
   pub type_in-Void : type_in classes header types.Void ≡ void_type
-  type_in-Void = ap (type_in classes header) (sym types.rolls-Void) ∙ fold-roll-TypeName (ViewType C) (type_step classes header) TypeName-F.Void
+  type_in-Void =
+      ap (type_in classes header) (sym types.rolls-Void) ∙ fold-roll-TypeName (ViewType C) (type_step classes header) TypeName-F.Void
 
 pub type_in-named : {C : Type 0} (classes : Classes C) (header : Header C) (text : Name) (reading : TypeReading C) → AreOrdered classes
     → ReadsTypeText classes header text reading → type_in classes header (types.Named text) ≡ type_of reading

@@ -1,3 +1,4 @@
 pub mod NamedExpressions
 pub mod NamedBlocks
+pub mod PartsInOrder
 pub mod ExampleReferences

@@ -17,9 +17,12 @@ use Rattle.mol_values.specs.declared.iblock.ILet.{ILet}
 use Rattle.mol_values.specs.declared.iblock.IStmt.{IStmt, fold-IStmt}
 use Rattle.mol_values.specs.declared.iblock.IStmtNode.{IStmtNode, fold-IStmtNode}
 use Rattle.mol_values.specs.declared.iexpr.IExpr.{IExpr}
-use Rattle.mol_references.specs.Named.{NameTheSame, ReferencesName}
+use Rattle.mol_values.specs.declared.param.Param.{Param}
+use Rattle.mol_values.specs.declared.value.Value.{Value}
+use Rattle.mol_values.specs.declared.value.Value.TheVariants as values
+use Rattle.mol_references.specs.Named.{NameTheSame, printed_mentions, ReferencesName}
 use Rattle.mol_references.specs.References as reference
-use Rattle.mol_references.specs.References.{default_target, method_target, outside_target, References, type_references, expr_references, exprs_references, maybe_references, arguments_references, let_references, start_references, body_references}
+use Rattle.mol_references.specs.References.{default_target, method_target, outside_target, References, type_references, expr_references, exprs_references, maybe_references, arguments_references, let_references, start_references, else_references, node_references, block_references, if_references, statement_references, body_references, references}
 use Rattle.mol_references.proofs.NamedExpressions.{both, outside, first, alone, nothing, types-name, expressions-name, all-name, arguments-name, maybe-name}
 
 -- ---- declarations
@@ -30,38 +33,18 @@ declarators-name [] = nothing
 declarators-name (d ∷ ds) = both (maybe_references d.init) _ (maybe_mentions d.init) _ (maybe-name d.init) (declarators-name ds)
 
 let-name : (declared : ILet) → NameTheSame (let_references declared) (let_mentions declared)
-let-name declared = both (type_references declared.ty) _ (type_mentions declared.ty) _ (types-name declared.ty) (declarators-name declared.names)
+let-name declared =
+    both (type_references declared.ty) _ (type_mentions declared.ty) _ (types-name declared.ty) (declarators-name declared.names)
 
 start-name : (start : IForStart) → NameTheSame (start_references start) (start_mentions start)
 start-name starts.None = nothing
 start-name (starts.Let declared) = let-name declared
 start-name (starts.Do es) = all-name es
 
--- ---- the folds of each part
+-- ---- what each part mentions
 
 abbrev Mentioned : Type 0
 Mentioned = List Mention
-
-abbrev else_references : IElse → References
-else_references = fold-IElse References References References References References reference.else_step reference.node_step
-    reference.block_step reference.if_step reference.statement_step
-
-abbrev node_references : IStmtNode → References
-node_references = fold-IStmtNode References References References References References reference.else_step reference.node_step
-    reference.block_step reference.if_step reference.statement_step
-
-abbrev block_references : IBlock → References
-block_references = fold-IBlock References References References References References reference.else_step reference.node_step
-    reference.block_step reference.if_step reference.statement_step
-
-abbrev if_references : IIf → References
-if_references = fold-IIf References References References References References reference.else_step reference.node_step reference.block_step
-    reference.if_step reference.statement_step
-
-abbrev statement_references : IStmt → References
-statement_references =
-    fold-IStmt References References References References References reference.else_step reference.node_step reference.block_step
-    reference.if_step reference.statement_step
 
 abbrev else_mentions : IElse → Mentioned
 else_mentions = fold-IElse Mentioned Mentioned Mentioned Mentioned Mentioned mention.else_step mention.node_step mention.block_step
@@ -157,8 +140,8 @@ node-layer (IStmtNode-F.While test b) = node-from (IStmtNode-F.While test b.0) (
 node-layer (IStmtNode-F.For start test steps b) =
     node-from (IStmtNode-F.For start test steps b.0)
     (both _ _ _ _ (both _ _ _ _ (both _ _ _ _ (start-name start) (maybe-name test)) (all-name steps)) b.1)
-node-layer (IStmtNode-F.Each is_final ty name e b) =
-    node-from (IStmtNode-F.Each is_final ty name e b.0) (both _ _ _ _ (both _ _ _ _ (types-name ty) (expressions-name e)) b.1)
+node-layer (IStmtNode-F.Each is_final type name e b) =
+    node-from (IStmtNode-F.Each is_final type name e b.0) (both _ _ _ _ (both _ _ _ _ (types-name type) (expressions-name e)) b.1)
 node-layer (IStmtNode-F.Return e) = node-from (IStmtNode-F.Return e) (maybe-name e)
 node-layer (IStmtNode-F.Throw e) = node-from (IStmtNode-F.Throw e) (expressions-name e)
 node-layer IStmtNode-F.Break = node-from IStmtNode-F.Break nothing
@@ -174,11 +157,13 @@ node-layer (IStmtNode-F.SuperOutside args) = node-from (IStmtNode-F.SuperOutside
 -- ---- blocks
 
 each_statement : (items : List WithStmt)
-    → NameTheSame (reference.joined (map statement_references (map (λ p. p.0) items))) (joined (map statement_mentions (map (λ p. p.0) items)))
+    → NameTheSame (reference.joined (map statement_references (map (λ p. p.0) items)))
+    (joined (map statement_mentions (map (λ p. p.0) items)))
 each_statement [] = nothing
 each_statement (s ∷ items) = both (statement_references s.0) _ (statement_mentions s.0) _ s.1 (each_statement items)
 
-block-layer : (items : List WithStmt) (tail : List (List ℕ)) → BlockNames (roll-IBlock (record { items = map (λ p. p.0) items; tail = tail }))
+block-layer : (items : List WithStmt) (tail : List (List ℕ))
+    → BlockNames (roll-IBlock (record { items = map (λ p. p.0) items; tail = tail }))
 block-layer items tail = subst (λ rs. NameTheSame rs (block_mentions (roll-IBlock block)))
     (sym (fold-roll-IBlock References References References References References reference.else_step reference.node_step
     reference.block_step reference.if_step reference.statement_step block))
@@ -198,7 +183,8 @@ if-layer test then rest = subst (λ rs. NameTheSame rs (if_mentions (roll-IIf br
     mention.if_step mention.statement_step branch))
     (both (expr_references test ++ block_references then.0) (else_references rest.0) (expr_mentions test ++ block_mentions then.0)
     (else_mentions rest.0)
-    (both (expr_references test) (block_references then.0) (expr_mentions test) (block_mentions then.0) (expressions-name test) then.1) rest.1)) where
+    (both (expr_references test) (block_references then.0) (expr_mentions test) (block_mentions then.0) (expressions-name test) then.1)
+    rest.1)) where
       branch : IIf-F IElse IStmtNode IBlock IIf IStmt
       branch = record { test = test; then = then.0; rest = rest.0 }
 
@@ -225,5 +211,22 @@ pub bodies-name : (body : Option IBody) → NameTheSame (body_references body) (
 bodies-name None = nothing
 bodies-name (Some body) = blocks-name body.block
 
+-- ---- values
+
+params-name : (params : List Param)
+    → NameTheSame (flat_map (λ (param : Param). type_references param.ty) params)
+    (flat_map (λ (param : Param). type_mentions param.ty) params)
+params-name [] = nothing
+params-name (param ∷ params) = both (type_references param.ty) _ (type_mentions param.ty) _ (types-name param.ty) (params-name params)
+
+values-name : (value : Value) → NameTheSame (references value) (printed_mentions value)
+values-name (values.Super None) = nothing
+values-name (values.Super (Some parent)) = types-name parent
+values-name (values.Result type) = types-name type
+values-name (values.Params params) = params-name params
+values-name (values.Body body) = bodies-name body
+values-name (values.Value type init) = both (type_references type) _ (type_mentions type) _ (types-name type) (maybe-name init)
+values-name value = nothing
+
 pub references_name : ReferencesName
-references_name = record { types = types-name; expressions = expressions-name; bodies = bodies-name }
+references_name = record { types = types-name; expressions = expressions-name; bodies = bodies-name; values = values-name }

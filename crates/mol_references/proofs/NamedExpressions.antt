@@ -13,9 +13,10 @@ use Rattle.mol_values.specs.declared.itype.IType.{IType}
 use Rattle.mol_values.specs.declared.itype.IType.TheOpen.{IType-F}
 use Rattle.mol_values.specs.declared.itype.IType.TheFolds.{fold-roll-IType, ind-IType, map-IType}
 use Rattle.mol_values.specs.declared.itype.IType.TheViews.{roll-IType}
-use Rattle.mol_references.specs.Named.{names, times, NameTheSame}
+use Rattle.jav_view.specs.TypeTexts.{imported_text}
+use Rattle.mol_references.specs.Named.{is_named, times, NameTheSame}
 use Rattle.mol_references.specs.References as reference
-use Rattle.mol_references.specs.References.{Target, class_target, field_target, method_target, param_target, default_target, local_target, outside_target, References, type_references, expr_references, exprs_references, arguments_references, maybe_references}
+use Rattle.mol_references.specs.References.{Target, class_target, field_target, method_target, param_target, default_target, local_target, outside_target, References, type_references, argument_references, expr_references, exprs_references, arguments_references, maybe_references}
 
 -- ---- lists
 
@@ -27,19 +28,20 @@ abbrev mentioned : Id → Mention → Bool
 mentioned id mention = same_id id mention.id
 
 pub both : (rs ss : References) (ms ns : List Mention) → NameTheSame rs ms → NameTheSame ss ns → NameTheSame (rs ++ ss) (ms ++ ns)
-both rs ss ms ns first second id = omega (arith, times-append (names id) rs ss, times-append (mentioned id) ms ns, first id, second id)
+both rs ss ms ns first second id = omega (arith, times-append (is_named id) rs ss, times-append (mentioned id) ms ns, first id, second id)
 
 -- the other way round
 turned : (rs ss : References) (ms ns : List Mention) → NameTheSame rs ms → NameTheSame ss ns → NameTheSame (ss ++ rs) (ms ++ ns)
-turned rs ss ms ns first second id = omega (arith, times-append (names id) ss rs, times-append (mentioned id) ms ns, first id, second id)
+turned rs ss ms ns first second id = omega (arith, times-append (is_named id) ss rs, times-append (mentioned id) ms ns, first id, second id)
 
 -- a reference to what is outside names no identity
 pub outside : (text : List ℕ) (rs : References) (ms : List Mention) → NameTheSame rs ms → NameTheSame (outside_target text ∷ rs) ms
 outside text rs ms same id = omega (arith, same id)
 
 -- a reference to an identity, and its mention
-module _ (target : Id → Target) (names-it : (id named : Id) → names id (target named) ≡ same_id id named) where
-  pub first : (role : Role) (it : Id) (rs : References) (ms : List Mention) → NameTheSame rs ms → NameTheSame (target it ∷ rs) (named role it ++ ms)
+module _ (target : Id → Target) (names-it : (id named : Id) → is_named id (target named) ≡ same_id id named) where
+  pub first : (role : Role) (it : Id) (rs : References) (ms : List Mention) → NameTheSame rs ms
+      → NameTheSame (target it ∷ rs) (named role it ++ ms)
   first role it rs ms same id = rw (names-it id it) (ap (λ n. (if same_id id it then 1 else 0) + n) (same id))
 
   pub alone : (role : Role) (it : Id) → NameTheSame (target it ∷ []) (named role it)
@@ -51,7 +53,7 @@ module _ (target : Id → Target) (names-it : (id named : Id) → names id (targ
   between role it rs ss ms ns before after id =
       omega (
         arith,
-        times-append (names id) rs (target it ∷ ss),
+        times-append (is_named id) rs (target it ∷ ss),
         times-append (mentioned id) (named role it ++ ms) ns,
         before id,
         after id,
@@ -75,7 +77,8 @@ TypeNames type = NameTheSame (type_references type) (type_mentions type)
 type_from : (x : IType-F IType)
     → NameTheSame (reference.type_step (map-IType _ _ type_references x)) (mention.type_step (map-IType _ _ type_mentions x))
     → TypeNames (roll-IType x)
-type_from x same = subst (λ rs. NameTheSame rs (type_mentions (roll-IType x))) (sym (types_of x)) (subst (NameTheSame _) (sym (types_in x)) same)
+type_from x same =
+    subst (λ rs. NameTheSame rs (type_mentions (roll-IType x))) (sym (types_of x)) (subst (NameTheSame _) (sym (types_in x)) same)
 
 type_layer : (y : IType-F ((type : IType) × TypeNames type)) → TypeNames (roll-IType (map-IType _ _ (λ p. p.0) y))
 type_layer IType-F.Boolean = type_from IType-F.Boolean nothing
@@ -86,7 +89,7 @@ type_layer IType-F.Int = type_from IType-F.Int nothing
 type_layer IType-F.Long = type_from IType-F.Long nothing
 type_layer IType-F.Void = type_from IType-F.Void nothing
 type_layer (IType-F.Class id) = type_from (IType-F.Class id) (alone class_target (λ id named. refl) mention.a_class id)
-type_layer (IType-F.Imported full rest) = type_from (IType-F.Imported full rest) (outside (reference.imported_text full rest) [] [] nothing)
+type_layer (IType-F.Imported import rest) = type_from (IType-F.Imported import rest) (outside (imported_text import rest) [] [] nothing)
 type_layer (IType-F.Written text) = type_from (IType-F.Written text) (outside text [] [] nothing)
 type_layer (IType-F.Array item) = type_from (IType-F.Array item.0) item.1
 
@@ -94,9 +97,6 @@ pub types-name : (type : IType) → TypeNames type
 types-name = ind-IType TypeNames (λ x y is. subst (λ z. TypeNames (roll-IType z)) is (type_layer y))
 
 -- ---- expressions
-
-abbrev pub argument_references : Argument → References
-argument_references = fold-Argument References References reference.expr_step reference.argument_step
 
 abbrev argument_mentions : Argument → List Mention
 argument_mentions = fold-Argument (List Mention) (List Mention) mention.expr_step mention.argument_step
@@ -125,7 +125,8 @@ each (e ∷ es) = both (expr_references e.0) (reference.joined (map expr_referen
     (joined (map expr_mentions (alone_all es))) e.1 (each es)
 
 each_argument : (args : List WithArgument)
-    → NameTheSame (reference.joined (map argument_references (arguments_alone args))) (joined (map argument_mentions (arguments_alone args)))
+    → NameTheSame (reference.joined (map argument_references (arguments_alone args)))
+    (joined (map argument_mentions (arguments_alone args)))
 each_argument [] = nothing
 each_argument (a ∷ args) =
     both (argument_references a.0) (reference.joined (map argument_references (arguments_alone args))) (argument_mentions a.0)
@@ -150,7 +151,8 @@ layer (IExpr-F.Field field e) =
     from (IExpr-F.Field field e.0) (turned (field_target field ∷ []) (expr_references e.0) (named mention.a_field field) (expr_mentions e.0)
     (alone field_target (λ id named. refl) mention.a_field field) e.1)
 layer (IExpr-F.Call method args) =
-    from (IExpr-F.Call method (arguments_alone args)) (first method_target (λ id named. refl) mention.a_called_method method _ _ (each_argument args))
+    from (IExpr-F.Call method (arguments_alone args))
+    (first method_target (λ id named. refl) mention.a_called_method method _ _ (each_argument args))
 layer (IExpr-F.StaticCall method args) =
     from (IExpr-F.StaticCall method (arguments_alone args))
     (first method_target (λ id named. refl) mention.a_static_method method _ _ (each_argument args))
@@ -166,24 +168,26 @@ layer (IExpr-F.New constructor args) =
 layer (IExpr-F.NewDefault class) = from (IExpr-F.NewDefault class) (alone default_target (λ id named. refl) mention.a_class class)
 layer (IExpr-F.Cond test a b) = from (IExpr-F.Cond test.0 a.0 b.0) (both _ _ _ _ (both _ _ _ _ test.1 a.1) b.1)
 layer (IExpr-F.OutsideName text) = from (IExpr-F.OutsideName text) (outside text [] [] nothing)
-layer (IExpr-F.OutsideClass full) = from (IExpr-F.OutsideClass full) (outside full [] [] nothing)
+layer (IExpr-F.OutsideClass name) = from (IExpr-F.OutsideClass name) (outside name [] [] nothing)
 layer (IExpr-F.OutsideField text e) =
     from (IExpr-F.OutsideField text e.0)
     (turned (outside_target text ∷ []) (expr_references e.0) [] (expr_mentions e.0) (outside text [] [] nothing) e.1)
 layer (IExpr-F.OutsideCall text args) = from (IExpr-F.OutsideCall text (alone_all args)) (outside text _ _ (each args))
-layer (IExpr-F.OutsideCallOn text e args) = from (IExpr-F.OutsideCallOn text e.0 (alone_all args)) (both _ _ _ _ e.1 (outside text _ _ (each args)))
+layer (IExpr-F.OutsideCallOn text e args) =
+    from (IExpr-F.OutsideCallOn text e.0 (alone_all args)) (both _ _ _ _ e.1 (outside text _ _ (each args)))
 layer (IExpr-F.OutsideSuperCall text args) = from (IExpr-F.OutsideSuperCall text (alone_all args)) (outside text _ _ (each args))
-layer (IExpr-F.NewOutside ty args) = from (IExpr-F.NewOutside ty (alone_all args)) (both _ _ _ _ (types-name ty) (each args))
-layer (IExpr-F.NewArray ty sizes pairs) = from (IExpr-F.NewArray ty (alone_all sizes) pairs) (both _ _ _ _ (types-name ty) (each sizes))
-layer (IExpr-F.ArrayLit ty items) = from (IExpr-F.ArrayLit ty (alone_all items)) (both _ _ _ _ (types-name ty) (each items))
+layer (IExpr-F.NewOutside type args) = from (IExpr-F.NewOutside type (alone_all args)) (both _ _ _ _ (types-name type) (each args))
+layer (IExpr-F.NewArray type sizes pairs) =
+    from (IExpr-F.NewArray type (alone_all sizes) pairs) (both _ _ _ _ (types-name type) (each sizes))
+layer (IExpr-F.ArrayLit type items) = from (IExpr-F.ArrayLit type (alone_all items)) (both _ _ _ _ (types-name type) (each items))
 layer (IExpr-F.Braces items) = from (IExpr-F.Braces (alone_all items)) (each items)
 layer (IExpr-F.Index e i) = from (IExpr-F.Index e.0 i.0) (both _ _ _ _ e.1 (outside (codes "[]") _ _ i.1))
 layer (IExpr-F.Unary op e) = from (IExpr-F.Unary op e.0) e.1
 layer (IExpr-F.Post op e) = from (IExpr-F.Post op e.0) e.1
 layer (IExpr-F.Binary op a b) = from (IExpr-F.Binary op a.0 b.0) (both _ _ _ _ a.1 b.1)
 layer (IExpr-F.Assign op a b) = from (IExpr-F.Assign op a.0 b.0) (both _ _ _ _ a.1 b.1)
-layer (IExpr-F.Cast ty e) = from (IExpr-F.Cast ty e.0) (both _ _ _ _ (types-name ty) e.1)
-layer (IExpr-F.InstanceOf e ty) = from (IExpr-F.InstanceOf e.0 ty) (both _ _ _ _ e.1 (types-name ty))
+layer (IExpr-F.Cast type e) = from (IExpr-F.Cast type e.0) (both _ _ _ _ (types-name type) e.1)
+layer (IExpr-F.InstanceOf e type) = from (IExpr-F.InstanceOf e.0 type) (both _ _ _ _ e.1 (types-name type))
 
 argument_layer : (argument : Argument) → Names argument.value → NamesArgument argument
 argument_layer argument same = subst (λ rs. NameTheSame rs (argument_mentions argument))

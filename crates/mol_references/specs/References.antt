@@ -7,11 +7,15 @@ use Rattle.mol_base.specs.declared.ident.Id.{Id}
 use Rattle.mol_values.specs.declared.iblock.IBlock.{IBlock, fold-IBlock}
 use Rattle.mol_values.specs.declared.iblock.IBody.{IBody}
 use Rattle.mol_values.specs.declared.iblock.IDeclarator.{IDeclarator}
+use Rattle.mol_values.specs.declared.iblock.IElse.{IElse, fold-IElse}
 use Rattle.mol_values.specs.declared.iblock.IElse.TheOpen.{IElse-F, IStmtNode-F, IBlock-F, IIf-F, IStmt-F}
 use Rattle.mol_values.specs.declared.iblock.IForStart.{IForStart}
 use Rattle.mol_values.specs.declared.iblock.IForStart.TheVariants as starts
+use Rattle.mol_values.specs.declared.iblock.IIf.{IIf, fold-IIf}
 use Rattle.mol_values.specs.declared.iblock.ILet.{ILet}
-use Rattle.mol_values.specs.declared.iexpr.Argument.{Argument}
+use Rattle.mol_values.specs.declared.iblock.IStmt.{IStmt, fold-IStmt}
+use Rattle.mol_values.specs.declared.iblock.IStmtNode.{IStmtNode, fold-IStmtNode}
+use Rattle.mol_values.specs.declared.iexpr.Argument.{Argument, fold-Argument}
 use Rattle.mol_values.specs.declared.iexpr.IExpr.{IExpr, fold-IExpr}
 use Rattle.mol_values.specs.declared.iexpr.IExpr.TheOpen.{IExpr-F, Argument-F}
 use Rattle.mol_values.specs.declared.itype.IType.{IType, fold-IType}
@@ -19,6 +23,7 @@ use Rattle.mol_values.specs.declared.itype.IType.TheOpen.{IType-F}
 use Rattle.mol_values.specs.declared.param.Param.{Param}
 use Rattle.mol_values.specs.declared.value.Value.{Value}
 use Rattle.mol_values.specs.declared.value.Value.TheVariants as values
+use Rattle.jav_view.specs.TypeTexts.{imported_text}
 
 -- ---- what a name is the name of
 
@@ -45,14 +50,9 @@ maybe (Some list) = list
 
 -- ---- types
 
--- the text of an imported type: its full name and what follows it
-abbrev pub imported_text : List ℕ → List ℕ → List ℕ
-imported_text full [] = full
-imported_text full (byte ∷ rest) = full ++ codes "." ++ byte ∷ rest
-
 abbrev pub type_step : IType-F References → References
 type_step (IType-F.Class id) = class_target id ∷ []
-type_step (IType-F.Imported full rest) = outside_target (imported_text full rest) ∷ []
+type_step (IType-F.Imported import rest) = outside_target (imported_text import rest) ∷ []
 type_step (IType-F.Written text) = outside_target text ∷ []
 type_step (IType-F.Array item) = item
 type_step primitive = []
@@ -82,22 +82,22 @@ expr_step (IExpr-F.New constructor args) = method_target constructor ∷ joined 
 expr_step (IExpr-F.NewDefault class) = default_target class ∷ []
 expr_step (IExpr-F.Cond test a b) = test ++ a ++ b
 expr_step (IExpr-F.OutsideName name) = outside_target name ∷ []
-expr_step (IExpr-F.OutsideClass full) = outside_target full ∷ []
+expr_step (IExpr-F.OutsideClass name) = outside_target name ∷ []
 expr_step (IExpr-F.OutsideField name e) = e ++ outside_target name ∷ []
 expr_step (IExpr-F.OutsideCall name args) = outside_target name ∷ joined args
 expr_step (IExpr-F.OutsideCallOn name e args) = e ++ outside_target name ∷ joined args
 expr_step (IExpr-F.OutsideSuperCall name args) = outside_target name ∷ joined args
-expr_step (IExpr-F.NewOutside ty args) = type_references ty ++ joined args
-expr_step (IExpr-F.NewArray ty sizes pairs) = type_references ty ++ joined sizes
-expr_step (IExpr-F.ArrayLit ty items) = type_references ty ++ joined items
+expr_step (IExpr-F.NewOutside type args) = type_references type ++ joined args
+expr_step (IExpr-F.NewArray type sizes pairs) = type_references type ++ joined sizes
+expr_step (IExpr-F.ArrayLit type items) = type_references type ++ joined items
 expr_step (IExpr-F.Braces items) = joined items
-expr_step (IExpr-F.Index e i) = e ++ index_target ∷ i
+expr_step (IExpr-F.Index e index) = e ++ index_target ∷ index
 expr_step (IExpr-F.Unary op e) = e
 expr_step (IExpr-F.Post op e) = e
 expr_step (IExpr-F.Binary op a b) = a ++ b
 expr_step (IExpr-F.Assign op a b) = a ++ b
-expr_step (IExpr-F.Cast ty e) = type_references ty ++ e
-expr_step (IExpr-F.InstanceOf e ty) = e ++ type_references ty
+expr_step (IExpr-F.Cast type e) = type_references type ++ e
+expr_step (IExpr-F.InstanceOf e type) = e ++ type_references type
 
 -- Of an argument the value prints, and not the parameter that it is for.
 abbrev pub argument_step : Argument-F References References → References
@@ -105,6 +105,9 @@ argument_step argument = argument.value
 
 abbrev pub expr_references : IExpr → References
 expr_references = fold-IExpr References References expr_step argument_step
+
+abbrev pub argument_references : Argument → References
+argument_references = fold-Argument References References expr_step argument_step
 
 abbrev pub exprs_references : List IExpr → References
 exprs_references es = flat_map expr_references es
@@ -119,7 +122,8 @@ maybe_references (Some e) = expr_references e
 -- ---- statements
 
 abbrev pub let_references : ILet → References
-let_references declared = type_references declared.ty ++ flat_map (λ (declarator : IDeclarator). maybe_references declarator.init) declared.names
+let_references declared =
+    type_references declared.ty ++ flat_map (λ (declarator : IDeclarator). maybe_references declarator.init) declared.names
 
 abbrev pub start_references : IForStart → References
 start_references starts.None = []
@@ -138,7 +142,7 @@ node_step (IStmtNode-F.Do e) = expr_references e
 node_step (IStmtNode-F.IStmtNode::If branch) = branch
 node_step (IStmtNode-F.While test block) = expr_references test ++ block
 node_step (IStmtNode-F.For start test steps block) = start_references start ++ maybe_references test ++ exprs_references steps ++ block
-node_step (IStmtNode-F.Each is_final ty name e block) = type_references ty ++ expr_references e ++ block
+node_step (IStmtNode-F.Each is_final type name e block) = type_references type ++ expr_references e ++ block
 node_step (IStmtNode-F.Return e) = maybe_references e
 node_step (IStmtNode-F.Throw e) = expr_references e
 node_step IStmtNode-F.Break = []
@@ -157,8 +161,22 @@ if_step branch = expr_references branch.test ++ branch.then ++ branch.rest
 abbrev pub statement_step : IStmt-F References References References References References → References
 statement_step statement = statement.node
 
+abbrev pub else_references : IElse → References
+else_references = fold-IElse References References References References References else_step node_step block_step if_step statement_step
+
+abbrev pub node_references : IStmtNode → References
+node_references =
+    fold-IStmtNode References References References References References else_step node_step block_step if_step statement_step
+
 abbrev pub block_references : IBlock → References
 block_references = fold-IBlock References References References References References else_step node_step block_step if_step statement_step
+
+abbrev pub if_references : IIf → References
+if_references = fold-IIf References References References References References else_step node_step block_step if_step statement_step
+
+abbrev pub statement_references : IStmt → References
+statement_references =
+    fold-IStmt References References References References References else_step node_step block_step if_step statement_step
 
 -- ---- values
 
@@ -173,8 +191,8 @@ parent_references (Some parent) = type_references parent
 -- What a cell's value prints by other names: an owner and the method of a declaration stand in no source.
 abbrev pub references : Value → References
 references (values.Super parent) = parent_references parent
-references (values.Result ty) = type_references ty
+references (values.Result type) = type_references type
 references (values.Params params) = flat_map (λ (param : Param). type_references param.ty) params
 references (values.Body body) = body_references body
-references (values.Value ty init) = type_references ty ++ maybe_references init
+references (values.Value type init) = type_references type ++ maybe_references init
 references value = []

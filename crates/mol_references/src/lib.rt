@@ -1,13 +1,23 @@
 //! The references of a value: the names that it prints by what they are the names of, in the order in which they print.
 //!
-//! They are a definition in `specs/`, which the contracts of the crates above cite. The call here computes nothing: it carries the
-//! law of the references.
+//! They are a definition in `specs/`, which the contracts of the crates above cite. The calls here compute nothing: each carries laws of
+//! the references.
 #![tactic(auto)]
 
+ghost use Rattle.mol_references.specs.InOrder.{ExpressionsInOrder, StatementsInOrder};
 ghost use Rattle.mol_references.specs.Named.{ReferencesName};
 
-/// The law of references: those of a type, an expression or a body name exactly the identities that it mentions, each as often.
+/// The law of references: those of a type, an expression, a body or the value of a cell name exactly the identities that it mentions,
+/// each as often, but for identities that no source prints.
 #[tactic(auto, using(crate::proofs::NamedBlocks::references_name))]
 pub fn references_name()
     ensures { ReferencesName }
+{}
+
+/// The order of references: those of the parts of an expression or a statement stand as the parts print, with the name of a member, a
+/// call or a creation in its place between them.
+#[tactic(auto, using(crate::proofs::PartsInOrder::expressions_in_order, crate::proofs::PartsInOrder::statements_in_order))]
+pub fn references_in_order()
+    ensures of_expressions { ExpressionsInOrder }
+    ensures of_statements { StatementsInOrder }
 {}
