@@ -1,15 +1,16 @@
 -- The static type of a choice between two values is exactly one.
-use Rattle.std.proofs.Common.{◌≡◌, ◌≢◌, ◌⊎◌, inl, inr, Bool, true, false, cond, refl, sym, ap, subst}
+use Rattle.std.proofs.Common.{◌≡◌, ◌≢◌, ◌⊎◌, inl, inr, Bool, true, false, cond, IsTrue, refl, sym, ◌∙◌, ap, subst, true≢false}
 use Rattle.std.specs.Bool.{Decides}
 use Rattle.std.specs.Ordering.{is_eq}
+use Rattle.std.proofs.lemmas.Bool.{false_from_ne_true}
 use Rattle.jav_view.specs.Ancestors.{IsAncestor}
 use Rattle.jav_view.specs.Laws.{IsTheAnswer}
 use Rattle.jav_view.specs.LookUps.{is_ancestor}
 use Rattle.jav_view.specs.OnValues.{StaticType, primitive_value, null_value, void_value, mixed_value, outside_value, class_value, array_value, unread_value}
-use Rattle.jav_view.specs.StaticTypes.{SameValue, same_value, AreUnrelated, ReadsCommon, upper_class, common_apart, common}
+use Rattle.jav_view.specs.StaticTypes.{SameValue, same_value, are_unread, AreUnrelated, ReadsCommon, upper_class, common_apart, common}
 use Rattle.jav_view.specs.Views.{AreOrdered, View}
 use Rattle.jav_view.proofs.AncestorsFound.{is_ancestor-decides}
-use Rattle.jav_view.proofs.EqualTypes.{same_value-decides}
+use Rattle.jav_view.proofs.EqualTypes.{same_value-decides, equal_known}
 use Rattle.jav_view.proofs.Lists.{Decides-not, Decides-fails}
 use Rattle.jav_view.proofs.Ways.{same_key}
 
@@ -28,7 +29,7 @@ module _ {C M : Type 0} (view : View C M) (ordered : AreOrdered view.classes) wh
   reads_upper a b differs false true not_above above =
       ReadsCommon.second_above ((above_tests a b).0 above) (Decides-not (above_tests b a) not_above)
   reads_upper a b differs false false not_first not_second =
-      ReadsCommon.apart differs (λ is. absurd cc) (λ is. absurd cc) (λ is. absurd cc) (λ is. absurd cc) unrelated where
+      ReadsCommon.apart differs (λ unread. true≢false (sym unread)) (λ is. absurd cc) (λ is. absurd cc) unrelated where
         unrelated : AreUnrelated view (class_value a) (class_value b)
         unrelated left right is-left is-right =
             let same_left : a ≡ left = cc in
@@ -39,20 +40,20 @@ module _ {C M : Type 0} (view : View C M) (ordered : AreOrdered view.classes) wh
               neither (inl above) = Decides-not (above_tests a b) not_second above
               neither (inr above) = Decides-not (above_tests b a) not_first above
 
-  reads_apart : (first second : StaticType C) → ¬ SameValue first second → ReadsCommon view first second (common_apart view first second)
-  reads_apart unread_value second differs = ReadsCommon.first_unread
-  reads_apart first unread_value differs = ReadsCommon.second_unread
-  reads_apart null_value second differs = ReadsCommon.first_null
-  reads_apart first null_value differs = ReadsCommon.second_null
-  reads_apart (class_value a) (class_value b) differs = reads_upper a b differs _ _ refl refl
-  reads_apart first second differs =
-      ReadsCommon.apart differs (λ is. absurd cc) (λ is. absurd cc) (λ is. absurd cc) (λ is. absurd cc)
-      (λ left right is-left is-right. absurd cc)
+  reads_apart : (first second : StaticType C) → ¬ SameValue first second → ¬ IsTrue (are_unread first second)
+      → ReadsCommon view first second (common_apart view first second)
+  reads_apart null_value second differs known = ReadsCommon.first_null
+  reads_apart first null_value differs known = ReadsCommon.second_null
+  reads_apart (class_value a) (class_value b) differs known = reads_upper a b differs _ _ refl refl
+  reads_apart first second differs known =
+      ReadsCommon.apart differs known (λ is. absurd cc) (λ is. absurd cc) (λ left right is-left is-right. absurd cc)
 
-  reads : (first second : StaticType C) (b : Bool) → same_value view.classes.cmp first second ≡ b
-      → ReadsCommon view first second (cond b first (common_apart view first second))
-  reads first second true is = ReadsCommon.of_equal ((equal_tests first second).0 is)
-  reads first second false is = reads_apart first second (Decides-not (equal_tests first second) is)
+  reads : (first second : StaticType C) (b u : Bool) → same_value view.classes.cmp first second ≡ b → are_unread first second ≡ u
+      → ReadsCommon view first second (cond b first (cond u unread_value (common_apart view first second)))
+  reads first second true u same unread = ReadsCommon.of_equal ((equal_tests first second).0 same)
+  reads first second false true apart unread = ReadsCommon.of_unread unread
+  reads first second false false apart known =
+      reads_apart first second (Decides-not (equal_tests first second) apart) (λ unread. true≢false (sym unread ∙ known))
 
   -- ---- and nothing more
 
@@ -76,25 +77,9 @@ module _ {C M : Type 0} (view : View C M) (ordered : AreOrdered view.classes) wh
   null_with (array_value item) = refl
   null_with unread_value = refl
 
-  with_unread : (second : StaticType C) → unread_value ≡ common view unread_value second
-  with_unread primitive_value = refl
-  with_unread null_value = refl
-  with_unread void_value = refl
-  with_unread mixed_value = refl
-  with_unread outside_value = refl
-  with_unread (class_value class) = refl
-  with_unread (array_value item) = refl
-  with_unread unread_value = refl
-
-  unread_with : (first : StaticType C) → unread_value ≡ common view first unread_value
-  unread_with primitive_value = refl
-  unread_with null_value = refl
-  unread_with void_value = refl
-  unread_with mixed_value = refl
-  unread_with outside_value = refl
-  unread_with (class_value class) = refl
-  unread_with (array_value item) = refl
-  unread_with unread_value = refl
+  not_unread : (first second : StaticType C) → are_unread first second ≡ true → same_value view.classes.cmp first second ≡ false
+  not_unread first second unread =
+      Decides-fails (equal_tests first second) (λ same. true≢false (sym unread ∙ equal_known first second same))
 
   first_upper : (a b : C) → IsAncestor view b a → (p : Bool) → is_eq (view.classes.cmp a b) ≡ p
       → class_value a ≡ cond p (class_value a) (upper_class view a b)
@@ -106,28 +91,25 @@ module _ {C M : Type 0} (view : View C M) (ordered : AreOrdered view.classes) wh
   second_upper a b above not_above true same = ap (λ c. class_value c) (sym ((same_key ordered.order a b).0 same))
   second_upper a b above not_above false differs = rw (Decides-fails (above_tests b a) not_above, (above_tests a b).1 above) refl
 
-  mixed_apart : (first second : StaticType C) → first ≢ unread_value → second ≢ unread_value → first ≢ null_value → second ≢ null_value
-      → AreUnrelated view first second → mixed_value ≡ common_apart view first second
-  mixed_apart unread_value second unread-first unread-second null-first null-second unrelated = absurd (unread-first refl)
-  mixed_apart first unread_value unread-first unread-second null-first null-second unrelated = absurd (unread-second refl)
-  mixed_apart null_value second unread-first unread-second null-first null-second unrelated = absurd (null-first refl)
-  mixed_apart first null_value unread-first unread-second null-first null-second unrelated = absurd (null-second refl)
-  mixed_apart (class_value a) (class_value b) unread-first unread-second null-first null-second unrelated =
+  mixed_apart : (first second : StaticType C) → first ≢ null_value → second ≢ null_value → AreUnrelated view first second
+      → mixed_value ≡ common_apart view first second
+  mixed_apart null_value second null-first null-second unrelated = absurd (null-first refl)
+  mixed_apart first null_value null-first null-second unrelated = absurd (null-second refl)
+  mixed_apart (class_value a) (class_value b) null-first null-second unrelated =
       let none = unrelated a b refl refl in
       rw (Decides-fails (above_tests b a) (λ above. none (inr above)), Decides-fails (above_tests a b) (λ above. none (inl above))) refl
-  mixed_apart first second unread-first unread-second null-first null-second unrelated = refl
+  mixed_apart first second null-first null-second unrelated = refl
 
   only : (first second reading : StaticType C) → ReadsCommon view first second reading → reading ≡ common view first second
   only first second reading (ReadsCommon.of_equal same) = rw ((equal_tests first second).1 same) refl
-  only first second reading ReadsCommon.first_unread = with_unread second
-  only first second reading ReadsCommon.second_unread = unread_with first
+  only first second reading (ReadsCommon.of_unread unread) = rw (not_unread first second unread, unread) refl
   only first second reading ReadsCommon.first_null = with_null second
   only first second reading ReadsCommon.second_null = null_with first
   only first second reading (ReadsCommon.first_above {first = a} {second = b} above) = first_upper a b above _ refl
   only first second reading (ReadsCommon.second_above {first = a} {second = b} above not_above) = second_upper a b above not_above _ refl
-  only first second reading (ReadsCommon.apart differs unread-first unread-second null-first null-second unrelated) =
-      rw (Decides-fails (equal_tests first second) differs)
-      (mixed_apart first second unread-first unread-second null-first null-second unrelated)
+  only first second reading (ReadsCommon.apart differs known null-first null-second unrelated) =
+      rw (Decides-fails (equal_tests first second) differs, false_from_ne_true (are_unread first second) known)
+      (mixed_apart first second null-first null-second unrelated)
 
   pub common-answered : (first second : StaticType C) → IsTheAnswer (ReadsCommon view first second) (common view first second)
-  common-answered first second = record { holds = reads first second _ refl; only = only first second }
+  common-answered first second = record { holds = reads first second _ _ refl refl; only = only first second }

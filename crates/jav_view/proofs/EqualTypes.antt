@@ -1,10 +1,10 @@
 -- Whether two types are equal: the test says so, and two that are equal are one.
-use Rattle.std.proofs.Common.{◌≡◌, true, refl, sym, ap, subst, true≢false, Ordering}
+use Rattle.std.proofs.Common.{◌≡◌, true, false, refl, sym, ap, subst, true≢false, Ordering}
 use Rattle.std.specs.Bool.{Decides}
 use Rattle.std.proofs.lemmas.Slice.Eq.{bytes_eq-Decides}
 use Rattle.jav_view.specs.Laws.{TypesCompared}
 use Rattle.jav_view.specs.OnValues.{StaticType, primitive_value, null_value, void_value, mixed_value, outside_value, class_value, array_value}
-use Rattle.jav_view.specs.StaticTypes.{SameType, same_type, SameValue, same_value}
+use Rattle.jav_view.specs.StaticTypes.{SameType, same_type, is_unread, SameValue, same_value, are_unread}
 use Rattle.jav_view.specs.Views.{ViewType, primitive_type, void_type, class_type, outside_type, array_type, IsKeyOrder}
 use Rattle.jav_view.proofs.Ways.{same_key}
 
@@ -14,6 +14,24 @@ one_type first second SameType.same_void = refl
 one_type first second SameType.same_class = refl
 one_type first second SameType.same_outside = refl
 one_type first second (SameType.same_array {first = a} {second = b} same) = ap (λ item. array_type item) (one_type a b same)
+
+-- of types that are equal all is known
+known : {C : Type 0} (first second : ViewType C) → SameType first second → is_unread first ≡ false
+known first second SameType.same_primitive = refl
+known first second SameType.same_void = refl
+known first second SameType.same_class = refl
+known first second SameType.same_outside = refl
+known first second (SameType.same_array {first = a} {second = b} same) = known a b same
+
+pub equal_known : {C : Type 0} (first second : StaticType C) → SameValue first second → are_unread first second ≡ false
+equal_known first second SameValue.same_primitives = refl
+equal_known first second SameValue.same_nulls = refl
+equal_known first second SameValue.same_voids = refl
+equal_known first second SameValue.same_mixed = refl
+equal_known first second SameValue.same_outsides = refl
+equal_known first second SameValue.same_classes = refl
+equal_known first second (SameValue.same_arrays {first = a} {second = b} same) =
+    rw (known a b same, ap is_unread (sym (one_type a b same)), known a b same) refl
 
 module _ {C : Type 0} (cmp : C → C → Ordering) (order : IsKeyOrder cmp) where
   same_type-is : (first second : ViewType C) → same_type cmp first second ≡ true → SameType first second

@@ -37,7 +37,7 @@ number_in_array : item (item int_arrays) ≡ primitive_value
 number_in_array = refl
 
 -- `a.length`, `a.clone()`, `a.clone()[0]` and `a.hashCode()`
-length_of_array : outside_field int_arrays ≡ primitive_value
+length_of_array : outside_field int_arrays (codes "length") ≡ primitive_value
 length_of_array = refl
 
 clone_of_array : outside_call int_arrays (codes "clone") 0 ≡ int_arrays
@@ -49,8 +49,12 @@ item_of_clone = refl
 hash_of_array : outside_call int_arrays (codes "hashCode") 0 ≡ outside_value
 hash_of_array = refl
 
+-- an array has no other field; one that a program names all the same is outside
+size_of_array : outside_field int_arrays (codes "size") ≡ outside_value
+size_of_array = refl
+
 -- `s.length` and `s[0]`, where `s` is outside
-length_of_outside : outside_field {C = ℕ} outside_value ≡ outside_value
+length_of_outside : outside_field {C = ℕ} outside_value (codes "length") ≡ outside_value
 length_of_outside = refl
 
 item_of_outside : item {C = ℕ} outside_value ≡ outside_value
@@ -92,9 +96,15 @@ numbers_or_truths : Chosen (array_value int_type) (array_value (primitive_type (
 numbers_or_truths =
     choice_read shop (last_extends shop) shop-seen (array_value int_type) (array_value (primitive_type (codes "boolean"))) _ refl
 
--- a type that is not found equals nothing: of the value nothing is known, and two arrays of it have no type in common
+-- a type that is not found equals nothing: of a choice nothing is known where a value or the items of one of two arrays are of it
 unread_or_number : Chosen primitive_value unread_value unread_value
 unread_or_number = choice_read shop (last_extends shop) shop-seen primitive_value unread_value _ refl
 
-unread_arrays : Chosen (array_value unread_type) (array_value unread_type) mixed_value
+unread_arrays : Chosen (array_value unread_type) (array_value unread_type) unread_value
 unread_arrays = choice_read shop (last_extends shop) shop-seen (array_value unread_type) (array_value unread_type) _ refl
+
+numbers_or_unread : Chosen (array_value int_type) (array_value (array_type unread_type)) unread_value
+numbers_or_unread = choice_read shop (last_extends shop) shop-seen (array_value int_type) (array_value (array_type unread_type)) _ refl
+
+unread_array_or_number : Chosen (array_value unread_type) primitive_value mixed_value
+unread_array_or_number = choice_read shop (last_extends shop) shop-seen (array_value unread_type) primitive_value _ refl

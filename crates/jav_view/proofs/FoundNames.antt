@@ -1,14 +1,17 @@
 -- What names are found to be stands in the view.
-use Rattle.std.proofs.Common.{◌≡◌, ◌⊎◌, inl, inr, ℕ, Bool, List, [], ◌∷◌, ◌++◌, Some, Contains, refl, subst}
+use Rattle.std.proofs.Common.{◌≡◌, ◌⊎◌, inl, inr, ℕ, suc, ◌<◌, ◌≤◌, Bool, List, [], ◌∷◌, ◌++◌, length, take, Some, Contains, refl, sym, ◌∙◌, ap, subst, arith}
+use Rattle.std.proofs.lemmas.Bool.{cases_lt}
+use Rattle.std.proofs.lemmas.List.{take_all}
+use Rattle.std.proofs.lemmas.List.Elements.{All-contains}
 use Rattle.jav_view.specs.Ancestors.{HasClass, Extends, Way, IsAncestor}
-use Rattle.jav_view.specs.DottedNames.{Name, Names}
-use Rattle.jav_view.specs.Leftmost.{leftmost_variable, leftmost_class, ReadsLeftmost}
+use Rattle.jav_view.specs.DottedNames.{Name, Names, joined}
+use Rattle.jav_view.specs.Leftmost.{leftmost_variable, leftmost_class, IsFewest, ReadsLeftmost}
 use Rattle.jav_view.specs.Members.{IsNearest, ReadsField, ReadsMethod, ReadsSuperMethod, Constructor, ReadsConstructor, ReadsSuperConstructor}
-use Rattle.jav_view.specs.OnValues.{StaticType, member, static_member, OnInstance, ReadsOn, ReadsFieldOn, ReadsMethodOn, Through}
+use Rattle.jav_view.specs.OnValues.{StaticType, class_value, member, static_member, OnInstance, ReadsOn, ReadsFieldOn, ReadsMethodOn, Through}
 use Rattle.jav_view.specs.Standing.{IsFieldOf, IsMethodOf, IsConstructorIn, IsVariableAt, TypesStand, NamesStand}
-use Rattle.jav_view.specs.Types.{Header, OwnStands, class_read, ReadsSimple, ReadsType}
+use Rattle.jav_view.specs.Types.{full_name, Header, OwnStands, class_read, ReadsSimple, ReadsType}
 use Rattle.jav_view.specs.Variables.{Place, Variable, ReadsVariable}
-use Rattle.jav_view.specs.Views.{ViewField, ViewDeclaration, Classes, View, Found, found}
+use Rattle.jav_view.specs.Views.{ViewClass, ViewField, ViewDeclaration, Classes, View, Found, found}
 use Rattle.jav_view.proofs.AncestorsFound.{follows-first}
 use Rattle.jav_view.proofs.Lists.{stands_first, stands_later}
 
@@ -85,16 +88,16 @@ module _ {C M : Type 0} (view : View C M) where
   super_method-stands class name arity declaration (ReadsSuperMethod.from_above {above = above} extends reads) =
       (above, extends, method-stands above name arity declaration reads)
 
-  constructor-stands : (class : C) (arity : ℕ) (constructor : Constructor C M) → ReadsConstructor view class arity (found constructor)
-      → IsConstructorIn view class arity constructor
-  constructor-stands class arity constructor (ReadsConstructor.declared least) = IsConstructorIn.is_declared least.here least.holds
-  constructor-stands class arity constructor (ReadsConstructor.by_default default) = IsConstructorIn.is_default default.takes_none
+  constructor-stands : (class : C) (arity : ℕ) (constructor : Constructor C M) → HasClass view.classes class
+      → ReadsConstructor view class arity (found constructor) → IsConstructorIn view class arity constructor
+  constructor-stands class arity constructor stands (ReadsConstructor.declared least) = IsConstructorIn.is_declared least.here least.holds
+  constructor-stands class arity constructor stands (ReadsConstructor.by_default default) = IsConstructorIn.is_default stands default
 
   super_constructor-stands : (class : C) (arity : ℕ) (constructor : Constructor C M)
       → ReadsSuperConstructor view class arity (found constructor)
       → (above : C) × Extends view class above × IsConstructorIn view above arity constructor
   super_constructor-stands class arity constructor (ReadsSuperConstructor.from_above {above = above} extends reads) =
-      (above, extends, constructor-stands above arity constructor reads)
+      (above, extends, constructor-stands above arity constructor extends.stands reads)
 
   -- ---- variables
 
@@ -116,49 +119,70 @@ module _ {C M : Type 0} (view : View C M) where
   leftmost_class-stands place first rest class count own (ReadsLeftmost.by_full_name {class = x} none reads fewest) =
       record { class = x; stands = fewest.here.here; is = refl }
 
+  -- names that are not there are not among the fewest
+  fewest-there : (first : Name) (rest : Names) (further : ℕ) (class : ViewClass C) → IsFewest view.classes first rest further class
+      → further ≤ length rest
+  fewest-there first rest further class fewest = by (cases_lt (length rest) further) where
+    by : (length rest < further) ⊎ (further ≤ length rest) → further ≤ length rest
+    by (inr there) = there
+    by (inl longer) =
+        let whole : take (length rest) rest ≡ take further rest
+        = take_all (length rest) rest (omega arith) ∙ sym (take_all further rest (omega (arith, longer))) in
+        absurd (All-contains (λ other. ¬ (full_name other ≡ joined first (take (length rest) rest))) view.classes.items class (fewest.none_fewer (length rest) longer) fewest.here.here
+        (fewest.here.holds ∙ ap (λ names. joined first names) (sym whole)))
+
+  leftmost_class-counted : (place : Place C) (first : Name) (rest : Names) (class : C) (count : ℕ)
+      → ReadsLeftmost view place first rest (leftmost_class class count) → (0 < count) × (count ≤ suc (length rest))
+  leftmost_class-counted place first rest class count (ReadsLeftmost.by_class none reads) = (omega arith, omega arith)
+  leftmost_class-counted place first rest class count (ReadsLeftmost.by_full_name {further = further} {class = x} none reads fewest) =
+      let there = fewest-there first rest further x fewest in (omega arith, omega (arith, there))
+
 -- ---- members of values, and through the name of a class
 
 module _ {C X : Type 0} (Reads : C → Found X → Type 0) (is_static : X → Bool) (arrays_have : Bool) where
-  found_on : (type : StaticType C) (x : X) → ReadsOn Reads is_static arrays_have type (member x) → (class : C) × Reads class (found x)
-  found_on type x (ReadsOn.of_class {class = class} reads (OnInstance.on_instance is)) = (class, reads)
+  found_on : (type : StaticType C) (x : X) → ReadsOn Reads is_static arrays_have type (member x)
+      → (class : C) × (type ≡ class_value class) × Reads class (found x)
+  found_on type x (ReadsOn.of_class {class = class} reads (OnInstance.on_instance is)) = (class, refl, reads)
 
   static_on : (type : StaticType C) (x : X) → ReadsOn Reads is_static arrays_have type (static_member x)
-      → (class : C) × Reads class (found x)
-  static_on type x (ReadsOn.of_class {class = class} reads (OnInstance.on_static is)) = (class, reads)
+      → (class : C) × (type ≡ class_value class) × Reads class (found x)
+  static_on type x (ReadsOn.of_class {class = class} reads (OnInstance.on_static is)) = (class, refl, reads)
 
 found_through : {X : Type 0} (Reads : Found X → Type 0) (is_static : X → Bool) (x : X) → Through Reads is_static (Some x) → Reads (found x)
 found_through Reads is_static x (Through.static_found reads static) = reads
 
 module _ {C M : Type 0} (view : View C M) where
   field_on-stands : (name : Name) (type : StaticType C) (field : ViewField C M)
-      → ReadsFieldOn view name type (member field) ⊎ ReadsFieldOn view name type (static_member field) → Contains view.fields field
+      → ReadsFieldOn view name type (member field) ⊎ ReadsFieldOn view name type (static_member field)
+      → (class : C) × (type ≡ class_value class) × IsFieldOf view class name field
   field_on-stands name type field (inl reads) =
       let of_class = found_on (λ class. ReadsField view class name) _ _ type field reads in
-      (field-stands view of_class.0 name field of_class.1).stands
+      (of_class.0, of_class.1, field-stands view of_class.0 name field of_class.2)
   field_on-stands name type field (inr reads) =
       let of_class = static_on (λ class. ReadsField view class name) _ _ type field reads in
-      (field-stands view of_class.0 name field of_class.1).stands
+      (of_class.0, of_class.1, field-stands view of_class.0 name field of_class.2)
 
   method_on-stands : (name : Name) (arity : ℕ) (type : StaticType C) (declaration : ViewDeclaration C M)
       → ReadsMethodOn view name arity type (member declaration) ⊎ ReadsMethodOn view name arity type (static_member declaration)
-      → Contains view.declarations declaration
+      → (class : C) × (type ≡ class_value class) × IsMethodOf view class name arity declaration
   method_on-stands name arity type declaration (inl reads) =
       let of_class = found_on (λ class. ReadsMethod view class name arity) _ _ type declaration reads in
-      (method-stands view of_class.0 name arity declaration of_class.1).stands
+      (of_class.0, of_class.1, method-stands view of_class.0 name arity declaration of_class.2)
   method_on-stands name arity type declaration (inr reads) =
       let of_class = static_on (λ class. ReadsMethod view class name arity) _ _ type declaration reads in
-      (method-stands view of_class.0 name arity declaration of_class.1).stands
+      (of_class.0, of_class.1, method-stands view of_class.0 name arity declaration of_class.2)
 
 pub names_stand : (C M : Type 0) → NamesStand C M
 names_stand C M = record {
   fields = λ view class name field reads. field-stands view class name field reads;
   methods = λ view class name arity declaration reads. method-stands view class name arity declaration reads;
   super_methods = λ view class name arity declaration reads. super_method-stands view class name arity declaration reads;
-  constructors = λ view class arity constructor reads. constructor-stands view class arity constructor reads;
+  constructors = λ view class arity constructor stands reads. constructor-stands view class arity constructor stands reads;
   super_constructors = λ view class arity constructor reads. super_constructor-stands view class arity constructor reads;
   variables = λ view place name variable reads. variable-stands view place name variable reads;
   leftmost_variables = λ view place first rest variable reads. leftmost_variable-stands view place first rest variable reads;
   leftmost_classes = λ view place first rest class count own reads. leftmost_class-stands view place first rest class count own reads;
+  leftmost_counts = λ view place first rest class count reads. leftmost_class-counted view place first rest class count reads;
   fields_on = λ view name type field reads. field_on-stands view name type field reads;
   methods_on = λ view name arity type declaration reads. method_on-stands view name arity type declaration reads;
   static_fields = λ view class name field reads. field-stands view class name field

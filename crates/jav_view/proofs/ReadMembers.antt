@@ -6,7 +6,7 @@ use Rattle.std.specs.Ordering.{is_eq}
 use Rattle.std.proofs.lemmas.Bool.{and_parts, and_from, or_right, not-true, not_from_false, false_from_ne_true}
 use Rattle.std.proofs.lemmas.List.Elements.{All-contains}
 use Rattle.std.proofs.lemmas.Slice.Eq.{bytes_eq-Decides}
-use Rattle.jav_view.specs.Ancestors.{Extends, ExtendsOutside, HasNoSuperclass, EndsOutside}
+use Rattle.jav_view.specs.Ancestors.{Extends, ExtendsOutside, HasNothingAbove, EndsOutside}
 use Rattle.jav_view.specs.Choices.{IsLeast, HoldsOfNone}
 use Rattle.jav_view.specs.DottedNames.{Name}
 use Rattle.jav_view.specs.Laws.{IsTheAnswer}
@@ -140,13 +140,13 @@ module _ {C M : Type 0} (view : View C M) (ordered : IsOrdered view) (class : C)
   outside-not_above : ExtendsOutside view class → class_above view class ≡ None
   outside-not_above extends = rw extends.named refl
 
-  none-above : HasNoSuperclass view class → class_above view class ≡ None
+  none-above : HasNothingAbove view class → class_above view class ≡ None
   none-above none = by_above (class_above view class) refl where
     by_above : (o : Option C) → class_above view class ≡ o → o ≡ None
     by_above None is = refl
     by_above (Some above) is = absurd (none.none above (class_above-is view ordered.classes class above is))
 
-  no_superclass : class_above view class ≡ None → is_outside (view.superclass class) ≡ false → HasNoSuperclass view class
+  no_superclass : class_above view class ≡ None → is_outside (view.superclass class) ≡ false → HasNothingAbove view class
   no_superclass none not_out = record { none = no_class; not_outside = Decides-not (is_outside-decides view class) not_out } where
     no_class : (above : C) → ¬ Extends view class above
     no_class above extends =

@@ -19,8 +19,8 @@ pub record ExtendsOutside {C M : Type 0} (view : View C M) (class : C) : Type 0 
   pub name : Name
   pub named : view.superclass class ≡ Some (outside_type name)
 
--- The superclass is neither: the class extends nothing that can be looked into.
-pub record HasNoSuperclass {C M : Type 0} (view : View C M) (class : C) : Type 0 where
+-- Nothing above the class can be looked into: it extends nothing, or what is neither a class of the view nor outside.
+pub record HasNothingAbove {C M : Type 0} (view : View C M) (class : C) : Type 0 where
   pub none : (above : C) → ¬ Extends view class above
   pub not_outside : ¬ ExtendsOutside view class
 

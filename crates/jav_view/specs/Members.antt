@@ -4,7 +4,7 @@ use Rattle.std.specs.Prelude.{◌≡◌, ◌≢◌, ℕ, ◌==◌, Bool, ◌&&�
 use Prim.Native.String.{String}
 use Rattle.std.specs.List.{list_any}
 use Rattle.std.specs.Str.{bytes_eq}
-use Rattle.jav_view.specs.Ancestors.{Extends, ExtendsOutside, HasNoSuperclass, Way, EndsOutside}
+use Rattle.jav_view.specs.Ancestors.{Extends, ExtendsOutside, HasNothingAbove, Way, EndsOutside}
 use Rattle.jav_view.specs.Choices.{IsLeast, HoldsOfNone}
 use Rattle.jav_view.specs.DottedNames.{Name}
 use Rattle.jav_view.specs.Views.{ViewField, constructor, ViewDeclaration, View, Found, found, outside, not_found}
@@ -82,8 +82,8 @@ pub data ReadsSuperMethod {C M : Type 0} (view : View C M) (class : C) (name : N
   from_above : {above : C} {reading : Found (ViewDeclaration C M)} → Extends view class above → ReadsMethod view above name arity reading
       → ReadsSuperMethod view class name arity reading
   in_outside_class : ExtendsOutside view class → ReadsSuperMethod view class name arity outside
-  of_object : HasNoSuperclass view class → IsTrue (is_object_method name arity) → ReadsSuperMethod view class name arity outside
-  not_there : HasNoSuperclass view class → ¬ IsTrue (is_object_method name arity) → ReadsSuperMethod view class name arity not_found
+  of_object : HasNothingAbove view class → IsTrue (is_object_method name arity) → ReadsSuperMethod view class name arity outside
+  not_there : HasNothingAbove view class → ¬ IsTrue (is_object_method name arity) → ReadsSuperMethod view class name arity not_found
 
 -- ---- constructors
 
@@ -120,4 +120,4 @@ pub data ReadsSuperConstructor {C M : Type 0} (view : View C M) (class : C) (ari
   from_above : {above : C} {reading : Found (Constructor C M)} → Extends view class above → ReadsConstructor view above arity reading
       → ReadsSuperConstructor view class arity reading
   in_outside_class : ExtendsOutside view class → ReadsSuperConstructor view class arity outside
-  not_there : HasNoSuperclass view class → ReadsSuperConstructor view class arity not_found
+  not_there : HasNothingAbove view class → ReadsSuperConstructor view class arity not_found

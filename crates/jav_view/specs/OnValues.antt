@@ -74,8 +74,8 @@ ReadsStaticField view class name = Through (ReadsField view class name) (λ fiel
 abbrev pub ReadsStaticMethod : {C M : Type 0} → View C M → C → Name → ℕ → Option (ViewDeclaration C M) → Type 0
 ReadsStaticMethod view class name arity = Through (ReadsMethod view class name arity) (λ declared. is_static_kind declared.kind)
 
--- What an index after a value comes to: an item, which is outside; an error of a value that has no items; nothing that may be said of
--- a value whose type's name reads as nothing.
+-- What an index after a value comes to: an item, where the name `[]` of the brackets is outside; an error of a value that has no items;
+-- nothing that may be said of a value whose type's name reads as nothing.
 pub data OnIndex : Type 0 where
   indexed : OnIndex
   not_indexed : OnIndex

@@ -1,12 +1,12 @@
 -- That what is found stands in the view, and where; and what the ancestors of a class are.
-use Rattle.std.specs.Prelude.{◌≡◌, ◌≢◌, ◌⊎◌, ℕ, Some, Contains, slice_get}
+use Rattle.std.specs.Prelude.{◌≡◌, ◌≢◌, ◌⊎◌, ℕ, suc, ◌<◌, ◌≤◌, length, Some, Contains, slice_get}
 use Rattle.std.specs.Bool.{Decides}
 use Rattle.jav_view.specs.Ancestors.{HasClass, Extends, IsAncestor, Leads}
 use Rattle.jav_view.specs.DottedNames.{Name, Names}
 use Rattle.jav_view.specs.Leftmost.{leftmost_variable, leftmost_class, ReadsLeftmost}
 use Rattle.jav_view.specs.LookUps.{is_ancestor}
-use Rattle.jav_view.specs.Members.{IsMethod, IsConstructorOf, ReadsField, ReadsMethod, ReadsSuperMethod, Constructor, declared_constructor, default_constructor, ReadsConstructor, ReadsSuperConstructor}
-use Rattle.jav_view.specs.OnValues.{StaticType, member, static_member, ReadsFieldOn, ReadsMethodOn, ReadsStaticField, ReadsStaticMethod}
+use Rattle.jav_view.specs.Members.{IsMethod, IsConstructorOf, IsByDefault, ReadsField, ReadsMethod, ReadsSuperMethod, Constructor, declared_constructor, default_constructor, ReadsConstructor, ReadsSuperConstructor}
+use Rattle.jav_view.specs.OnValues.{StaticType, class_value, member, static_member, ReadsFieldOn, ReadsMethodOn, ReadsStaticField, ReadsStaticMethod}
 use Rattle.jav_view.specs.Types.{Header, OwnStands, class_read, ReadsSimple, ReadsType}
 use Rattle.jav_view.specs.Variables.{Place, Variable, local_variable, parameter_variable, field_variable, ReadsVariable}
 use Rattle.jav_view.specs.Views.{ViewField, ViewDeclaration, Classes, AreOrdered, View, found}
@@ -39,11 +39,11 @@ pub record IsMethodOf {C M : Type 0} (view : View C M) (class : C) (name : Name)
   pub is_method : IsMethod name arity declaration
   pub owned : (declaration.owner ≡ class) ⊎ IsAncestor view class declaration.owner
 
--- A constructor of the class: a declaration of the view, or the default one of the class.
+-- A constructor of the class: a declaration of the view, or the default one of a class of the view that declares none.
 pub data IsConstructorIn {C M : Type 0} (view : View C M) (class : C) (arity : ℕ) : Constructor C M → Type 0 where
   is_declared : {declaration : ViewDeclaration C M} → Contains view.declarations declaration → IsConstructorOf class arity declaration
       → IsConstructorIn view class arity (declared_constructor declaration)
-  is_default : arity ≡ 0 → IsConstructorIn view class arity (default_constructor class)
+  is_default : HasClass view.classes class → IsByDefault view class arity → IsConstructorIn view class arity (default_constructor class)
 
 -- A variable of this name: a local or a parameter of the place, or a field of the view.
 pub data IsVariableAt {C M : Type 0} (view : View C M) (place : Place C) (name : Name) : Variable C M → Type 0 where
@@ -51,14 +51,14 @@ pub data IsVariableAt {C M : Type 0} (view : View C M) (place : Place C) (name :
   is_parameter : {number : ℕ} → slice_get place.params number ≡ Some name → IsVariableAt view place name (parameter_variable number)
   is_field : {field : ViewField C M} → IsFieldOf view place.class name field → IsVariableAt view place name (field_variable field)
 
--- What names are found to be stands among the classes, where the file's own class does.
+-- What the names of types are found to be stands among the classes, where the file's own class does.
 pub record TypesStand (C : Type 0) : Type 0 where
   pub simple : (classes : Classes C) (header : Header C) (name : Name) (class : C) → OwnStands classes header
       → ReadsSimple classes header name (class_read class) → HasClass classes class
   pub types : (classes : Classes C) (header : Header C) (first : Name) (rest : Names) (class : C) → OwnStands classes header
       → ReadsType classes header first rest (class_read class) → HasClass classes class
 
--- And what is found of members and variables stands in the view.
+-- What members and variables are found to be stands in the view: a constructor where its class does.
 pub record NamesStand (C M : Type 0) : Type 0 where
   pub fields : (view : View C M) (class : C) (name : Name) (field : ViewField C M)
       → ReadsField view class name (found field) → IsFieldOf view class name field
@@ -67,7 +67,7 @@ pub record NamesStand (C M : Type 0) : Type 0 where
   pub super_methods : (view : View C M) (class : C) (name : Name) (arity : ℕ) (declaration : ViewDeclaration C M)
       → ReadsSuperMethod view class name arity (found declaration)
       → (above : C) × Extends view class above × IsMethodOf view above name arity declaration
-  pub constructors : (view : View C M) (class : C) (arity : ℕ) (constructor : Constructor C M)
+  pub constructors : (view : View C M) (class : C) (arity : ℕ) (constructor : Constructor C M) → HasClass view.classes class
       → ReadsConstructor view class arity (found constructor) → IsConstructorIn view class arity constructor
   pub super_constructors : (view : View C M) (class : C) (arity : ℕ) (constructor : Constructor C M)
       → ReadsSuperConstructor view class arity (found constructor)
@@ -78,11 +78,15 @@ pub record NamesStand (C M : Type 0) : Type 0 where
       → ReadsLeftmost view place first rest (leftmost_variable variable) → IsVariableAt view place first variable
   pub leftmost_classes : (view : View C M) (place : Place C) (first : Name) (rest : Names) (class : C) (count : ℕ)
       → OwnStands view.classes place.header → ReadsLeftmost view place first rest (leftmost_class class count) → HasClass view.classes class
+  -- a class is spelled by one of the names or more, and by no more than there are
+  pub leftmost_counts : (view : View C M) (place : Place C) (first : Name) (rest : Names) (class : C) (count : ℕ)
+      → ReadsLeftmost view place first rest (leftmost_class class count) → (0 < count) × (count ≤ suc (length rest))
   pub fields_on : (view : View C M) (name : Name) (type : StaticType C) (field : ViewField C M)
-      → ReadsFieldOn view name type (member field) ⊎ ReadsFieldOn view name type (static_member field) → Contains view.fields field
+      → ReadsFieldOn view name type (member field) ⊎ ReadsFieldOn view name type (static_member field)
+      → (class : C) × (type ≡ class_value class) × IsFieldOf view class name field
   pub methods_on : (view : View C M) (name : Name) (arity : ℕ) (type : StaticType C) (declaration : ViewDeclaration C M)
       → ReadsMethodOn view name arity type (member declaration) ⊎ ReadsMethodOn view name arity type (static_member declaration)
-      → Contains view.declarations declaration
+      → (class : C) × (type ≡ class_value class) × IsMethodOf view class name arity declaration
   pub static_fields : (view : View C M) (class : C) (name : Name) (field : ViewField C M)
       → ReadsStaticField view class name (Some field) → IsFieldOf view class name field
   pub static_methods : (view : View C M) (class : C) (name : Name) (arity : ℕ) (declaration : ViewDeclaration C M)

@@ -1,5 +1,5 @@
 -- The static types of values, as far as names ask for them: those of types, literals, items of arrays, choices and members outside.
-use Rattle.std.specs.Prelude.{◌≡◌, ◌≢◌, ◌⊎◌, ℕ, ◌==◌, Bool, true, false, ◌&&◌, [], ◌∷◌, codes, if◌then◌else◌}
+use Rattle.std.specs.Prelude.{◌≡◌, ◌≢◌, ◌⊎◌, ℕ, ◌==◌, Bool, true, false, ◌&&◌, ◌||◌, IsTrue, [], ◌∷◌, codes, if◌then◌else◌}
 use Rattle.std.specs.Ordering.{is_eq}
 use Rattle.std.specs.Str.{bytes_eq}
 use Rattle.std.specs.declared.cmp.Ordering.{Ordering}
@@ -35,8 +35,9 @@ of_literal text = if bytes_eq text (codes "null") then null_value else if opens_
 
 -- ---- equal types
 
--- Two types are equal where they are one primitive type, `void`, one class, one text of an outside type, or arrays of equal types
--- (JLS 4.3.4, 10.1). A type whose name reads as nothing equals no type, not even itself: nothing is known of it.
+-- Two types are equal where both are the same primitive type, both `void`, both the same class, both outside with the same text, or
+-- both arrays whose items have equal types (JLS 4.3.4, 10.1). A type whose name reads as nothing equals no type, not even itself:
+-- nothing is known of it.
 pub data SameType {C : Type 0} : ViewType C → ViewType C → Type 0 where
   same_primitive : {name : Name} → SameType (primitive_type name) (primitive_type name)
   same_void : SameType void_type void_type
@@ -73,6 +74,21 @@ same_value cmp (class_value first) (class_value second) = is_eq (cmp first secon
 same_value cmp (array_value first) (array_value second) = same_type cmp first second
 same_value cmp first second = false
 
+-- ---- what is not known
+
+-- Nothing is known of a type whose name reads as nothing, nor of the items of an array of such a type.
+abbrev pub is_unread : {C : Type 0} → ViewType C → Bool
+is_unread unread_type = true
+is_unread (array_type item) = is_unread item
+is_unread type = false
+
+-- Nothing is known of what two values have in common: one of them is unread, or both are arrays and the items of one are.
+abbrev pub are_unread : {C : Type 0} → StaticType C → StaticType C → Bool
+are_unread unread_value second = true
+are_unread first unread_value = true
+are_unread (array_value first) (array_value second) = is_unread first || is_unread second
+are_unread first second = false
+
 -- ---- a choice
 
 -- Where both are classes, neither is an ancestor of the other.
@@ -81,37 +97,36 @@ AreUnrelated {C} view first second = (left right : C) → first ≡ class_value 
     → ¬ (IsAncestor view left right ⊎ IsAncestor view right left)
 
 -- The static type of a choice `?:` between two values (JLS 15.25): the common type where their types are equal; else unread where
--- one of them is, since nothing is known of it; else that of the other where one is null; of two classes the one that is an ancestor
--- of the other, and of two in a circle of superclasses the first; else mixed.
+-- nothing is known of what they have in common; else that of the other where one is null; of two classes the one that is an ancestor of
+-- the other, and of two in a circle of superclasses the first; else mixed.
 pub data ReadsCommon {C M : Type 0} (view : View C M) : StaticType C → StaticType C → StaticType C → Type 0 where
   of_equal : {first second : StaticType C} → SameValue first second → ReadsCommon view first second first
-  first_unread : {second : StaticType C} → ReadsCommon view unread_value second unread_value
-  second_unread : {first : StaticType C} → ReadsCommon view first unread_value unread_value
+  of_unread : {first second : StaticType C} → IsTrue (are_unread first second) → ReadsCommon view first second unread_value
   first_null : {second : StaticType C} → ReadsCommon view null_value second second
   second_null : {first : StaticType C} → ReadsCommon view first null_value first
   first_above : {first second : C} → IsAncestor view second first
       → ReadsCommon view (class_value first) (class_value second) (class_value first)
   second_above : {first second : C} → IsAncestor view first second → ¬ IsAncestor view second first
       → ReadsCommon view (class_value first) (class_value second) (class_value second)
-  apart : {first second : StaticType C} → ¬ SameValue first second → first ≢ unread_value → second ≢ unread_value
-      → first ≢ null_value → second ≢ null_value → AreUnrelated view first second → ReadsCommon view first second mixed_value
+  apart : {first second : StaticType C} → ¬ SameValue first second → ¬ IsTrue (are_unread first second) → first ≢ null_value
+      → second ≢ null_value → AreUnrelated view first second → ReadsCommon view first second mixed_value
 
 -- of two classes the one that is an ancestor of the other
 abbrev pub upper_class : {C M : Type 0} → View C M → C → C → StaticType C
 upper_class view first second =
     if is_ancestor view second first then class_value first else if is_ancestor view first second then class_value second else mixed_value
 
--- of two static types that are not equal
+-- of two static types that are known and not equal
 abbrev pub common_apart : {C M : Type 0} → View C M → StaticType C → StaticType C → StaticType C
-common_apart view unread_value second = unread_value
-common_apart view first unread_value = unread_value
 common_apart view null_value second = second
 common_apart view first null_value = first
 common_apart view (class_value first) (class_value second) = upper_class view first second
 common_apart view first second = mixed_value
 
 abbrev pub common : {C M : Type 0} → View C M → StaticType C → StaticType C → StaticType C
-common view first second = if same_value view.classes.cmp first second then first else common_apart view first second
+common view first second =
+    if same_value view.classes.cmp first second then first
+    else if are_unread first second then unread_value else common_apart view first second
 
 -- ---- an item
 
@@ -129,16 +144,16 @@ item mixed_value = mixed_value
 
 -- ---- members outside
 
--- A field outside: of an array that is its `length`, which is primitive (JLS 10.7); else it is outside.
-abbrev pub outside_field : {C : Type 0} → StaticType C → StaticType C
-outside_field (array_value type) = primitive_value
-outside_field outside_value = outside_value
-outside_field unread_value = outside_value
-outside_field (class_value class) = outside_value
-outside_field primitive_value = outside_value
-outside_field null_value = outside_value
-outside_field void_value = outside_value
-outside_field mixed_value = outside_value
+-- A field outside: `length` of an array is primitive (JLS 10.7), any other is outside.
+abbrev pub outside_field : {C : Type 0} → StaticType C → Name → StaticType C
+outside_field (array_value type) name = if bytes_eq name (codes "length") then primitive_value else outside_value
+outside_field outside_value name = outside_value
+outside_field unread_value name = outside_value
+outside_field (class_value class) name = outside_value
+outside_field primitive_value name = outside_value
+outside_field null_value name = outside_value
+outside_field void_value name = outside_value
+outside_field mixed_value name = outside_value
 
 -- A call of a method outside: `clone()` of an array gives an array of its type (JLS 10.7), any other call what is outside.
 abbrev pub outside_call : {C : Type 0} → StaticType C → Name → ℕ → StaticType C

@@ -44,7 +44,7 @@ pub fn found_stands()
     ensures names_of_programs { NamesStand Id Id }
 {}
 
-/// The same of what may be found, outside or not found: it is exactly one of the three.
+/// What may be found, outside or not found is exactly one of the three.
 #[tactic(auto, using(crate::proofs::NamesAnswered::names_decided))]
 pub fn names_decided()
     ensures of_units { NamesDecided ℕ MemberKey }
