@@ -1,7 +1,7 @@
 -- The ancestors of a class: what their function says, that they are classes of the view, and what going up leads to.
-use Rattle.std.proofs.Common.{◌≡◌, ◌≢◌, ◌⊎◌, inl, inr, ℕ, zero, suc, true, List, [], ◌∷◌, drop, length, Contains, refl, sym, ◌∙◌, ap, subst}
+use Rattle.std.proofs.Common.{◌≡◌, ◌≢◌, ◌⊎◌, inl, inr, ℕ, zero, suc, true, List, [], ◌∷◌, ◌++◌, drop, length, Contains, refl, sym, ◌∙◌, ap, subst}
 use Rattle.std.specs.Bool.{Decides}
-use Rattle.jav_view.specs.Ancestors.{HasClass, Extends, Follows, Way, IsAncestor, Leads}
+use Rattle.jav_view.specs.Ancestors.{HasClass, Extends, Follows, Way, IsAncestor, Leads, HasNoCircle}
 use Rattle.jav_view.specs.LookUps.{is_met, way_from, way, ancestors, is_ancestor}
 use Rattle.jav_view.specs.Standing.{AncestorsKnown}
 use Rattle.jav_view.specs.Views.{AreOrdered, View}
@@ -181,6 +181,93 @@ module _ {C M : Type 0} (view : View C M) (ordered : AreOrdered view.classes) wh
         ap (λ classes. is_met view.classes (drop 1 classes) above) same
         ∙ (is_met-decides view.classes ordered is.ancestors above).1 is.met
 
+-- ---- where there is no circle
+
+module _ {C M : Type 0} (view : View C M) where
+  leads_on : (class next top : C) → Leads view class next → Extends view next top → Leads view class top
+  leads_on class next top (Leads.last_step extends) last = Leads.step extends (Leads.last_step last)
+  leads_on class next top (Leads.step {above = above} extends leads) last = Leads.step extends (leads_on above next top leads last)
+
+  -- going up leads to the class from each that was met
+  abbrev pub AreBelow : List C → C → Type 0
+  AreBelow met class = (before : C) → Contains met before → Leads view before class
+
+  below-next : (met : List C) (class above : C) → Extends view class above → AreBelow met class → AreBelow (class ∷ met) above
+  below-next met class above extends below before stands = by_place (stands_where class before met stands) where
+    by_place : (class ≡ before) ⊎ Contains met before → Leads view before above
+    by_place (inl same) = Leads.last_step (subst (λ c. Extends view c above) same extends)
+    by_place (inr earlier) = leads_on before class above (below before earlier) extends
+
+  -- where a class on the way goes on
+  pub record GoesOn (classes : List C) (x : C) : Type 0 where
+    pub nearer : List C
+    pub farther : List C
+    pub met : List C
+    pub is : classes ≡ nearer ++ farther
+    pub follows : Follows view met x farther
+    pub below : AreBelow met x
+
+  goes_on_from : {met : List C} {class : C} {classes : List C} → Follows view met class classes → AreBelow met class → (x : C)
+      → Contains classes x → GoesOn classes x
+  goes_on_from (Follows.up {met = met} {way = above_it} {class = class} {above = above} extends new more) below x stands =
+      by_place (stands_where class x above_it stands) (goes_on_from more (below-next met class above extends below) x) where
+        here : GoesOn (class ∷ above_it) class
+        here = record {
+          nearer = [];
+          farther = class ∷ above_it;
+          met = met;
+          is = refl;
+          follows = Follows.up extends new more;
+          below = below;
+        }
+
+        by_place : (class ≡ x) ⊎ Contains above_it x → (Contains above_it x → GoesOn above_it x) → GoesOn (class ∷ above_it) x
+        by_place (inl same) later = subst (GoesOn (class ∷ above_it)) same here
+        by_place (inr stands) later =
+            let rest = later stands in record {
+              nearer = class ∷ rest.nearer;
+              farther = rest.farther;
+              met = rest.met;
+              is = ap (λ classes. class ∷ classes) rest.is;
+              follows = rest.follows;
+              below = rest.below;
+            }
+  goes_on_from (Follows.end {met = met} {class = class} ends) below x stands = by_place (stands_where class x [] stands) where
+    here : GoesOn (class ∷ []) class
+    here = record { nearer = []; farther = class ∷ []; met = met; is = refl; follows = Follows.end ends; below = below }
+
+    by_place : (class ≡ x) ⊎ Contains [] x → GoesOn (class ∷ []) x
+    by_place (inl same) = subst (GoesOn (class ∷ [])) same here
+    by_place (inr later) = absurd (stands_nowhere x later)
+
+  module _ (no_circle : HasNoCircle view) where
+    -- what was met before is no matter
+    follows-anew : {met : List C} {class : C} {classes : List C} → Follows view met class classes → AreBelow met class → (fewer : List C)
+        → ((x : C) → Contains fewer x → Contains met x) → Follows view fewer class classes
+    follows-anew (Follows.up {met = met} {class = class} {above = above} extends new more) below fewer among =
+        Follows.up extends (λ stands. new (among_more above stands))
+        (follows-anew more (below-next met class above extends below) (class ∷ fewer) among_more) where
+          among_more : (x : C) → Contains (class ∷ fewer) x → Contains (class ∷ met) x
+          among_more x stands = by_place (stands_where class x fewer stands) where
+            by_place : (class ≡ x) ⊎ Contains fewer x → Contains (class ∷ met) x
+            by_place (inl same) = subst (Contains (class ∷ met)) same (stands_first class met)
+            by_place (inr later) = stands_later class x met (among x later)
+    follows-anew (Follows.end {met = met} {class = class} ends) below fewer among = Follows.end (λ above extends. absurd (never above extends)) where
+      never : (above : C) → ¬ Extends view class above
+      never above extends = by_place (stands_where class above met (ends above extends)) where
+        by_place : ¬ ((class ≡ above) ⊎ Contains met above)
+        by_place (inl same) = no_circle class (Leads.last_step (subst (Extends view class) (sym same) extends))
+        by_place (inr before) = no_circle above (leads_on above class above (below above before) extends)
+
+    pub ways-end : (ordered : AreOrdered view.classes) (class above : C) → IsAncestor view class above
+        → (nearer : List C) × (way view class ≡ nearer ++ way view above)
+    ways-end ordered class above is =
+        let on = goes_on_from is.way (λ before stands. absurd (stands_nowhere before stands)) above
+        (stands_later class above is.ancestors is.met) in
+        let anew = follows-anew on.follows on.below [] (λ x stands. absurd (stands_nowhere x stands)) in
+        (on.nearer, one_way view ordered (way-is view ordered class) is.way ∙ on.is
+        ∙ ap (λ classes. on.nearer ++ classes) (one_way view ordered anew (way-is view ordered above)))
+
 pub ancestors_known : (C M : Type 0) → AncestorsKnown C M
 ancestors_known C M = record {
   tested = λ view class above ordered. is_ancestor-decides view ordered class above;
@@ -188,4 +275,5 @@ ancestors_known C M = record {
   never_itself = λ view class is. ancestors-never_itself view class is;
   led_to = λ view class above is. ancestors-led_to view class above is;
   reached = λ view class above ordered leads differs. ancestors-reached view ordered class above leads differs;
+  ways_end = λ view class above ordered no_circle is. ways-end view no_circle ordered class above is;
 }

@@ -55,3 +55,7 @@ pub record IsAncestor {C M : Type 0} (view : View C M) (class above : C) : Type 
 pub data Leads {C M : Type 0} (view : View C M) : C → C → Type 0 where
   last_step : {class above : C} → Extends view class above → Leads view class above
   step : {class above top : C} → Extends view class above → Leads view above top → Leads view class top
+
+-- Going up from no class leads back to it.
+abbrev pub HasNoCircle : {C M : Type 0} → View C M → Type 0
+HasNoCircle {C} view = (class : C) → ¬ Leads view class class

@@ -6,18 +6,20 @@ use Rattle.jav_tree.specs.declared.unit.Field.{Field}
 use Rattle.jav_tree.specs.declared.unit.Member.{Member}
 use Rattle.jav_tree.specs.declared.unit.Member.TheVariants as member
 use Rattle.jav_tree.specs.declared.unit.Method.{Method}
+use Rattle.jav_tree.specs.declared.unit.Param.{Param}
 use Rattle.jav_tree.specs.declared.unit.Unit.{Unit as Source}
 use Rattle.jav_tree.specs.Blocks.{block_of}
 use Rattle.jav_view.specs.Ancestors.{IsAncestor}
 use Rattle.jav_view.specs.DottedNames.{Name}
 use Rattle.jav_view.specs.StaticTypes.{SameType, same_primitive}
 use Rattle.jav_view.specs.UnitViews.{classes_of, header_of}
-use Rattle.jav_view.specs.Views.{ViewType, primitive_type, class_type}
-use Rattle.jav_view.proofs.ExampleFiles.{int, named, with_superclasses, view-seen, way_read}
+use Rattle.jav_view.specs.Views.{ViewType, primitive_type, class_type, unread_type}
+use Rattle.jav_view.proofs.ExampleFiles.{int, named, param, with_superclasses, view-seen, way_read}
 use Rattle.jav_view.proofs.WrittenTypes.{type_in-Prim, type_in-Named}
-use Rattle.mol_spell.specs.FaultKinds.{path_differs, duplicate_class, package_is_class, import_clash, duplicate_member, result_differs, static_hidden}
-use Rattle.mol_spell.specs.Files.{Files, files_view, type_of_file}
-use Rattle.mol_spell.specs.ResolveFaults.{Fails, by_path, by_class, by_package, by_import, by_member, by_result, by_static}
+use Rattle.mol_spell.specs.FaultKinds.{path_differs, duplicate_class, package_is_class, import_clash, duplicate_member, overload_by_type, result_differs, static_hidden}
+use Rattle.mol_spell.specs.Files.{File, Files, units, files_view, type_of_file}
+use Rattle.mol_spell.specs.MemberFaults.{Row, row_of, AreInOrder, AreDuplicates, AreOverloads, by_duplicate, by_types, by_result, by_static}
+use Rattle.mol_spell.specs.ResolveFaults.{Fails, by_path, by_class, by_package, by_import, between_members}
 use Rattle.mol_spell.proofs.ExampleShop.{file_at}
 
 -- two texts that differ in the byte at a place
@@ -89,17 +91,23 @@ own_name_imported = by_import (record {
 abbrev field_at : ℕ → Field
 field_at at = record { front = []; at = at; words = []; ty = int; name = codes "count"; init = None }
 
-abbrev method_at : ℕ → Bool → TypeName → Method
-method_at at is_static result = record {
+abbrev method_of : ℕ → Bool → TypeName → List Param → Method
+method_of at is_static result params = record {
   front = [];
   at = at;
   words = [];
   is_static = is_static;
   result = result;
   name = codes "label";
-  params = [];
+  params = params;
   block = Some (block_of [] []);
 }
+
+abbrev method_at : ℕ → Bool → TypeName → Method
+method_at at is_static result = method_of at is_static result []
+
+abbrev long : TypeName
+long = types.Prim (codes "long")
 
 abbrev class_with : Name → Option TypeName → List Member → Source
 class_with name parent members = record {
@@ -109,65 +117,102 @@ class_with name parent members = record {
   class = record { front = []; words = []; name = name; parent = parent; members = members; tail = [] };
 }
 
--- two fields `int count`: it is told of the second
-abbrev two_fields : Files
-two_fields = file_at "shop/Cart.java" (class_with (codes "Cart") None (member.Field (field_at 20) ∷ member.Field (field_at 40) ∷ [])) ∷ []
+-- two fields `int count`: the fault is at the second
+abbrev two_fields : File
+two_fields = file_at "shop/Cart.java" (class_with (codes "Cart") None (member.Field (field_at 20) ∷ member.Field (field_at 40) ∷ []))
 
-fields_of_a_name : Fails two_fields duplicate_member 0 40
-fields_of_a_name = by_member (record {
-  earlier = 0;
-  later = 1;
-  ordered = omega arith;
-  first = record { file = _; stands = refl; member = member.Field (field_at 20); is = refl };
-  second = record { file = _; stands = refl; member = member.Field (field_at 40); is = refl };
-  here = refl;
-  same = inl (record { field = field_at 20; other = field_at 40; first_is = refl; second_is = refl; named = refl });
-})
+fields_of_a_name : Fails (two_fields ∷ []) duplicate_member 0 40
+fields_of_a_name = between_members {first = row_of (type_of_file (two_fields ∷ []) (0, two_fields)) 0 (0, member.Field (field_at 20))}
+    {second = row_of (type_of_file (two_fields ∷ []) (0, two_fields)) 0 (1, member.Field (field_at 40))} (0, omega arith, refl) (1, omega arith, refl)
+    (by_duplicate (AreDuplicates.fields (record { one_class = refl; ordered = omega arith })
+    (record { first_is = refl; second_is = refl; named = refl })))
 
--- ---- results: `int label()` and `long label()` in one class
+-- ---- two methods `label` in one class
 
-abbrev long : TypeName
-long = types.Prim (codes "long")
+-- the file of `Cart` with these methods
+abbrev with_methods : Method → Method → File
+with_methods first second = file_at "shop/Cart.java" (class_with (codes "Cart") None (member.Method first ∷ member.Method second ∷ []))
 
-abbrev results : Source
-results = class_with (codes "Cart") None (member.Method (method_at 20 false int) ∷ member.Method (method_at 40 false long) ∷ [])
+module _ (first second : Method) where
+  abbrev only_file : Files
+  only_file = with_methods first second ∷ []
 
-abbrev two_results : Files
-two_results = file_at "shop/Cart.java" results ∷ []
+  abbrev first_row : Row ℕ
+  first_row = row_of (type_of_file only_file (0, with_methods first second)) 0 (0, member.Method first)
 
+  abbrev second_row : Row ℕ
+  second_row = row_of (type_of_file only_file (0, with_methods first second)) 0 (1, member.Method second)
+
+  in_order : AreInOrder first_row second_row
+  in_order = record { one_class = refl; ordered = omega arith }
+
+-- two primitive types of different names
 one_primitive : (first second : Name) → SameType {C = ℕ} (primitive_type first) (primitive_type second) → first ≡ second
 one_primitive first second same_primitive = refl
 
-results_apart : ¬ SameType (type_of_file two_results 0 (file_at "shop/Cart.java" results) int) (type_of_file two_results 0 (file_at "shop/Cart.java" results) long)
-results_apart same = apart_at 0 (codes "int") (codes "long") (λ is. omega (arith, is))
+int_or_long : (files : Files) (file : ℕ × File) → ¬ SameType (type_of_file files file int) (type_of_file files file long)
+int_or_long files (number, file) same = apart_at 0 (codes "int") (codes "long") (λ is. omega (arith, is))
     (one_primitive (codes "int") (codes "long")
-    (subst (λ (type : ViewType ℕ). SameType (primitive_type (codes "int")) type) (type_in-Prim (classes_of (results ∷ [])) (header_of (0, results)) (codes "long"))
-    (subst (λ (type : ViewType ℕ). SameType type (type_of_file two_results 0 (file_at "shop/Cart.java" results) long))
-    (type_in-Prim (classes_of (results ∷ [])) (header_of (0, results)) (codes "int")) same)))
+    (subst (λ (type : ViewType ℕ). SameType (primitive_type (codes "int")) type)
+    (type_in-Prim (classes_of (units files)) (header_of (number, file.unit)) (codes "long"))
+    (subst (λ (type : ViewType ℕ). SameType type (type_of_file files (number, file) long))
+    (type_in-Prim (classes_of (units files)) (header_of (number, file.unit)) (codes "int")) same)))
 
-results_differ : Fails two_results result_differs 0 40
-results_differ = by_result (
-  record {
-    number_of_first = 0;
-    first_place = 0;
-    second_place = 1;
-    first = record {
-      at = record { file = file_at "shop/Cart.java" results; stands = refl; member = member.Method (method_at 20 false int); is = refl };
-      method = method_at 20 false int;
-      is = refl;
-    };
-    second = record {
-      at = record { file = file_at "shop/Cart.java" results; stands = refl; member = member.Method (method_at 40 false long); is = refl };
-      method = method_at 40 false long;
-      is = refl;
-    };
-    named = refl;
-    as_many = refl;
-    here = refl;
-    placed = inl (refl, omega arith);
-  },
-  results_apart,
-)
+-- `int label()` and `long label()`
+results_differ : Fails (with_methods (method_at 20 false int) (method_at 40 false long) ∷ []) result_differs 0 40
+results_differ =
+    let first = method_at 20 false int in
+    let second = method_at 40 false long in
+    between_members {first = first_row first second} {second = second_row first second} (0, omega arith, refl) (1, omega arith, refl)
+    (by_result (record {
+      related = record { alike = record { first_is = refl; second_is = refl; named = refl }; as_many = refl; placed = inl (in_order first second) };
+      differ = int_or_long (only_file first second) (0, with_methods first second);
+    }))
+
+-- `int label(int n)` and `int label(long n)`: a call of `label` with one argument could mean either
+types_differ : Fails (with_methods (method_of 20 false int (param int "n" ∷ [])) (method_of 40 false int (param long "n" ∷ [])) ∷ [])
+    overload_by_type 0 40
+types_differ =
+    let first = method_of 20 false int (param int "n" ∷ []) in
+    let second = method_of 40 false int (param long "n" ∷ []) in
+    between_members {first = first_row first second} {second = second_row first second} (0, omega arith, refl) (1, omega arith, refl)
+    (by_types (AreOverloads.methods
+    (record { alike = record { first_is = refl; second_is = refl; named = refl }; as_many = refl; placed = inl (in_order first second) })
+    (record { as_many = refl; differ = λ equal. int_or_long (only_file first second) (0, with_methods first second) equal.0 })))
+
+-- `int label(Cart.X n)` twice, where `Cart` has no `X`: a type that is not found equals no type, so that these are overloads and no
+-- duplicates, and that fault comes before those of the names
+never_same : (type : ViewType ℕ) → ¬ SameType unread_type type
+never_same type same = elim same [ ]
+
+abbrev unread_name : TypeName
+unread_name = types.Named (codes "Cart.X")
+
+abbrev of_unread : ℕ → Method
+of_unread at = method_of at false int (param unread_name "n" ∷ [])
+
+abbrev twice_unread : Files
+twice_unread = only_file (of_unread 20) (of_unread 40)
+
+reads-unread : type_of_file twice_unread (0, with_methods (of_unread 20) (of_unread 40)) unread_name ≡ unread_type
+reads-unread = type_in-Named (classes_of (units twice_unread)) (header_of (0, (with_methods (of_unread 20) (of_unread 40)).unit)) (codes "Cart.X")
+
+same_headers : Fails twice_unread overload_by_type 0 40
+same_headers =
+    between_members {first = first_row (of_unread 20) (of_unread 40)} {second = second_row (of_unread 20) (of_unread 40)}
+    (0, omega arith, refl) (1, omega arith, refl)
+    (by_types (AreOverloads.methods
+    (record {
+      alike = record { first_is = refl; second_is = refl; named = refl };
+      as_many = refl;
+      placed = inl (in_order (of_unread 20) (of_unread 40));
+    })
+    (record {
+      as_many = refl;
+      differ = λ equal. never_same (type_of_file twice_unread (0, with_methods (of_unread 20) (of_unread 40)) unread_name)
+          (subst (λ (type : ViewType ℕ). SameType type (type_of_file twice_unread (0, with_methods (of_unread 20) (of_unread 40)) unread_name))
+          reads-unread equal.0);
+    })))
 
 -- ---- `static int label()` in `Desk`, and `int label()` in `Till`, which extends `Desk`
 
@@ -194,27 +239,20 @@ desk_above = record {
   met = (0, omega arith, refl);
 }
 
+abbrev static_label : Row ℕ
+static_label = row_of (type_of_file hidden (0, file_at "shop/Desk.java" desk)) 0 (0, member.Method (method_at 20 true int))
+
+abbrev own_label : Row ℕ
+own_label = row_of (type_of_file hidden (1, file_at "shop/Till.java" till)) 1 (0, member.Method (method_at 60 false int))
+
 static_method_hidden : Fails hidden static_hidden 1 60
-static_method_hidden = by_static (record {
-  related = record {
-    number_of_first = 0;
-    first_place = 0;
-    second_place = 0;
-    first = record {
-      at = record { file = file_at "shop/Desk.java" desk; stands = refl; member = member.Method (method_at 20 true int); is = refl };
-      method = method_at 20 true int;
-      is = refl;
-    };
-    second = record {
-      at = record { file = file_at "shop/Till.java" till; stands = refl; member = member.Method (method_at 60 false int); is = refl };
-      method = method_at 60 false int;
-      is = refl;
-    };
-    named = refl;
-    as_many = refl;
-    here = refl;
-    placed = inr desk_above;
-  };
-  above = desk_above;
-  static = inl refl;
-})
+static_method_hidden = between_members {first = static_label} {second = own_label} (0, omega arith, refl) (1, omega arith, refl)
+    (by_static (record {
+      related = record {
+        alike = record { first_is = refl; second_is = refl; named = refl };
+        as_many = refl;
+        placed = inr desk_above;
+      };
+      above = desk_above;
+      static = inl refl;
+    }))

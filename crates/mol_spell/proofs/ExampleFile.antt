@@ -22,9 +22,9 @@ use Rattle.jav_view.specs.UnitViews.{MemberKey}
 use Rattle.jav_view.proofs.ExampleFiles.{int, param, file}
 use Rattle.mol_spell.specs.Expected.{filler_step, filler_of, known_of, value_of}
 use Rattle.mol_spell.specs.FaultKinds.{redeclared, unknown_name}
-use Rattle.mol_spell.specs.Files.{Files}
-use Rattle.mol_spell.specs.Numbering.{class_entity, member_entity, method_entity, param_entity, in_order}
-use Rattle.mol_spell.specs.ReadFiles.{numbered_reader, tree_faults}
+use Rattle.mol_spell.specs.Files.{Files, placed}
+use Rattle.mol_spell.specs.Numbering.{numbered_class, numbered_member, numbered_method, numbered_param, in_order}
+use Rattle.mol_spell.specs.ReadFiles.{member_reader, tree_faults}
 use Rattle.mol_spell.specs.Readers.{Reader}
 use Rattle.mol_spell.proofs.ExampleShop.{base, file_at}
 use Rattle.mol_spell.proofs.ReadEquations.{reads-Name, tree-Prim, line_at, reads-Return, reads-block}
@@ -60,13 +60,13 @@ key = record { unit = 0; member = 0 }
 
 -- ---- its numbers
 
-numbers : in_order files ≡ class_entity 0 ∷ member_entity key ∷ method_entity key ∷ param_entity key 0 ∷ param_entity key 1 ∷ []
+numbers : in_order files ≡ numbered_class 0 ∷ numbered_member key ∷ numbered_method key ∷ numbered_param key 0 ∷ numbered_param key 1 ∷ []
 numbers = refl
 
 -- ---- its faults: two parameters have one name, and nothing is named `x`
 
 abbrev in_sum : Reader ℕ MemberKey
-in_sum = numbered_reader files (0, file_at "k/A.java" unit) (0, sum)
+in_sum = member_reader files (placed files (0, file_at "k/A.java" unit) (0, sum))
 
 faults : tree_faults files (0, file_at "k/A.java" unit)
     ≡ record { kind = redeclared; at = 20 } ∷ record { kind = unknown_name; at = 48 } ∷ []
@@ -78,37 +78,37 @@ faults = rw (
 
 -- ---- what it says
 
-known_class : known_of files (class_entity 0) ≡ Some knowns.Class
+known_class : known_of files (numbered_class 0) ≡ Some knowns.Class
 known_class = refl
 
-known_declaration : known_of files (member_entity key) ≡ Some (knowns.Decl (base 3))
+known_declaration : known_of files (numbered_member key) ≡ Some (knowns.Decl (base 3))
 known_declaration = refl
 
-known_method : known_of files (method_entity key) ≡ Some (knowns.Method Instance)
+known_method : known_of files (numbered_method key) ≡ Some (knowns.Method Instance)
 known_method = refl
 
-known_parameter : known_of files (param_entity key 1) ≡ Some (knowns.Param (base 3))
+known_parameter : known_of files (numbered_param key 1) ≡ Some (knowns.Param (base 3))
 known_parameter = refl
 
-name_of_class : value_of files (class_entity 0) slots.Name ≡ Some (values.Name (codes "A"))
+name_of_class : value_of files (numbered_class 0) slots.Name ≡ Some (values.Name (codes "A"))
 name_of_class = refl
 
-owner_of_declaration : value_of files (member_entity key) slots.Owner ≡ Some (values.Owner (base 1))
+owner_of_declaration : value_of files (numbered_member key) slots.Owner ≡ Some (values.Owner (base 1))
 owner_of_declaration = refl
 
-name_of_method : value_of files (method_entity key) slots.Name ≡ Some (values.Name (codes "sum"))
+name_of_method : value_of files (numbered_method key) slots.Name ≡ Some (values.Name (codes "sum"))
 name_of_method = refl
 
 filler-Int : filler_of types.Int ≡ codes "0"
 filler-Int = ap filler_of (sym types.rolls-Int) ∙ fold-roll-IType Name filler_step IType-F.Int
 
-params_of_method : value_of files (method_entity key) slots.Params ≡ Some (values.Params (
+params_of_method : value_of files (numbered_method key) slots.Params ≡ Some (values.Params (
     record { id = base 4; name = codes "n"; ty = types.Int; filler = codes "0" }
     ∷ record { id = base 5; name = codes "n"; ty = types.Int; filler = codes "0" } ∷ []))
 params_of_method = rw (tree-Prim in_sum (codes "int"), filler-Int) refl
 
 -- a body in which a name has no meaning has no value
-no_body : value_of files (member_entity key) slots.Body ≡ None
+no_body : value_of files (numbered_member key) slots.Body ≡ None
 no_body = rw (
   reads-block in_sum (return_x ∷ []) (line_at in_sum 41 (StmtNode-F.Return (Some x)) ∷ []) (λ i. reads-Return in_sum 41 (Some x) i ∷ []),
   reads-Name in_sum 48 (codes "x"),

@@ -14,7 +14,7 @@ use Rattle.jav_view.proofs.ExampleReadings.{cart, desk, till, shop, last_extends
 use Rattle.mol_spell.specs.FaultKinds.{unknown_member, receiver_type}
 use Rattle.mol_spell.specs.Files.{File, Files}
 use Rattle.mol_spell.specs.Locals.{Locals, no_locals, declare}
-use Rattle.mol_spell.specs.Numbering.{class_entity, member_entity, method_entity, param_entity, order_by, in_order, id_by, ids_by}
+use Rattle.mol_spell.specs.Numbering.{numbered_class, numbered_member, numbered_method, numbered_param, order_by, in_order, id_by, ids_by}
 use Rattle.mol_spell.specs.Outcomes.{fine, refused}
 use Rattle.mol_spell.specs.Readers.{Reader}
 use Rattle.mol_spell.specs.ReadTrees.{read_expr}
@@ -38,19 +38,19 @@ abbrev key : ℕ → ℕ → MemberKey
 key unit member = record { unit = unit; member = member }
 
 -- classes, then members, then methods with their parameters
-numbers : in_order files ≡ class_entity 0 ∷ class_entity 1 ∷ class_entity 2
-    ∷ member_entity (key 0 0) ∷ member_entity (key 0 1) ∷ member_entity (key 0 2) ∷ member_entity (key 0 3)
-    ∷ member_entity (key 1 0) ∷ member_entity (key 1 1) ∷ member_entity (key 2 0)
-    ∷ method_entity (key 0 1) ∷ method_entity (key 0 2) ∷ param_entity (key 0 2) 0
-    ∷ method_entity (key 0 3) ∷ param_entity (key 0 3) 0 ∷ param_entity (key 0 3) 1
-    ∷ method_entity (key 1 1) ∷ method_entity (key 2 0) ∷ param_entity (key 2 0) 0 ∷ []
+numbers : in_order files ≡ numbered_class 0 ∷ numbered_class 1 ∷ numbered_class 2
+    ∷ numbered_member (key 0 0) ∷ numbered_member (key 0 1) ∷ numbered_member (key 0 2) ∷ numbered_member (key 0 3)
+    ∷ numbered_member (key 1 0) ∷ numbered_member (key 1 1) ∷ numbered_member (key 2 0)
+    ∷ numbered_method (key 0 1) ∷ numbered_method (key 0 2) ∷ numbered_param (key 0 2) 0
+    ∷ numbered_method (key 0 3) ∷ numbered_param (key 0 3) 0 ∷ numbered_param (key 0 3) 1
+    ∷ numbered_method (key 1 1) ∷ numbered_method (key 2 0) ∷ numbered_param (key 2 0) 0 ∷ []
 numbers = ap (λ v. order_by v files) shop-seen
 
 -- so the field `count` of `Desk` is `:8`, and the parameter of `pay` is `:19`
-count_number : id_by view files (member_entity (key 1 0)) ≡ base 8
+count_number : id_by view files (numbered_member (key 1 0)) ≡ base 8
 count_number = refl
 
-cart_number : id_by view files (param_entity (key 2 0) 0) ≡ base 19
+cart_number : id_by view files (numbered_param (key 2 0) 0) ≡ base 19
 cart_number = refl
 
 -- ---- bodies of `pay`

@@ -8,7 +8,7 @@ use Rattle.std.specs.Ordering.{ordering_then, ordering_reverse}
 use Rattle.mol_spell.specs.FaultKinds.{FaultKind, rank_of, path_differs, duplicate_class, package_is_class, super_cycle, import_clash, duplicate_member, overload_by_type, result_differs, static_hidden, redeclared, unknown_name, unknown_member, static_by_instance, receiver_type}
 use Rattle.mol_spell.specs.Files.{Files}
 use Rattle.mol_spell.specs.Laws.{FirstFaults}
-use Rattle.mol_spell.specs.ResolveFaults.{IsFirstFault, HavePathsApart, Told, told_cmp, told_of}
+use Rattle.mol_spell.specs.ResolveFaults.{IsFirstFault, HavePathsApart, FaultInFile, fault_cmp, fault_in}
 
 -- ---- the order in which faults are told
 
@@ -36,8 +36,8 @@ kind_at receiver_type default = refl
 kind_same : (first second : FaultKind) → rank_of first ≡ rank_of second → first ≡ second
 kind_same first second is = sym (kind_at first first) ∙ ap (λ rank. slice_index_or every_kind rank first) is ∙ kind_at second first
 
-told_cmp-total : IsTotalOrder told_cmp
-told_cmp-total = search (comparing, rules) depth 9
+fault_cmp-total : IsTotalOrder fault_cmp
+fault_cmp-total = search (comparing, rules) depth 9
 
 then_both : (a b : Ordering) → ordering_then a b ≡ Equal → (a ≡ Equal) × (b ≡ Equal)
 then_both Less b e = absurd cc
@@ -45,12 +45,12 @@ then_both Equal b e = (refl, e)
 then_both Greater b e = absurd cc
 
 -- what ties has one path, one place and one kind
-pub record AreTied (first second : Told) : Type 0 where
+pub record AreTied (first second : FaultInFile) : Type 0 where
   pub path : first.path ≡ second.path
   pub at : first.at ≡ second.at
   pub kind : first.kind ≡ second.kind
 
-tied : (first second : Told) → told_cmp first second ≡ Equal → AreTied first second
+tied : (first second : FaultInFile) → fault_cmp first second ≡ Equal → AreTied first second
 tied first second is =
     let outer = then_both (slice_cmp nat_cmp first.path second.path)
     (ordering_then (nat_cmp first.at second.at) (nat_cmp (rank_of first.kind) (rank_of second.kind))) is in
@@ -62,20 +62,20 @@ tied first second is =
     }
 
 -- neither is before the other
-ties : (first second : Told) → told_cmp first second ≢ Less → told_cmp second first ≢ Less → told_cmp first second ≡ Equal
-ties first second not_before not_after = by (told_cmp first second) refl where
-  by : (o : Ordering) → told_cmp first second ≡ o → told_cmp first second ≡ Equal
+ties : (first second : FaultInFile) → fault_cmp first second ≢ Less → fault_cmp second first ≢ Less → fault_cmp first second ≡ Equal
+ties first second not_before not_after = by (fault_cmp first second) refl where
+  by : (o : Ordering) → fault_cmp first second ≡ o → fault_cmp first second ≡ Equal
   by Less is = absurd (not_before is)
   by Equal is = is
-  by Greater is = absurd (not_after (told_cmp-total.antisymm second first ∙ ap ordering_reverse is))
+  by Greater is = absurd (not_after (fault_cmp-total.antisymm second first ∙ ap ordering_reverse is))
 
 -- ---- the law
 
 first_fault : (files : Files) → HavePathsApart files → (kind other : FaultKind) (number second at place : ℕ)
     → IsFirstFault files kind number at → IsFirstFault files other second place → (kind ≡ other) × (number ≡ second) × (at ≡ place)
 first_fault files apart kind other number second at place first last =
-    let same = tied (told_of first.file kind at) (told_of last.file other place)
-    (ties (told_of first.file kind at) (told_of last.file other place)
+    let same = tied (fault_in first.file kind at) (fault_in last.file other place)
+    (ties (fault_in first.file kind at) (fault_in last.file other place)
     (last.none_before kind number at first.file first.stands first.holds)
     (first.none_before other second place last.file last.stands last.holds)) in
     (same.kind, apart number second first.file last.file first.stands last.stands same.path, same.at)

@@ -9,7 +9,7 @@ use Rattle.jav_view.specs.UnitViews.{MemberKey, member_key_cmp}
 use Rattle.jav_view.proofs.UnitsOrdered.{member_key_cmp-IsKeyOrder}
 use Rattle.mol_spell.specs.Files.{Files}
 use Rattle.mol_spell.specs.Laws.{NumbersApart}
-use Rattle.mol_spell.specs.Numbering.{Entity, class_entity, member_entity, method_entity, param_entity, same_key, same_entity, in_order, id_at}
+use Rattle.mol_spell.specs.Numbering.{Numbered, numbered_class, numbered_member, numbered_method, numbered_param, same_key, same_numbered, in_order, id_at}
 
 -- ---- whether two are one
 
@@ -28,47 +28,47 @@ both-true : (a b : Bool) → (a && b) ≡ true → (a ≡ true) × (b ≡ true)
 both-true true b is = (refl, is)
 both-true false b is = absurd (true≢false (sym is))
 
-entity-self : (entity : Entity) → same_entity entity entity ≡ true
-entity-self (class_entity number) = eq-eqb number number refl
-entity-self (member_entity key) = key-self key
-entity-self (method_entity key) = key-self key
-entity-self (param_entity key place) = rw (key-self key) (eq-eqb place place refl)
+item-self : (item : Numbered) → same_numbered item item ≡ true
+item-self (numbered_class number) = eq-eqb number number refl
+item-self (numbered_member key) = key-self key
+item-self (numbered_method key) = key-self key
+item-self (numbered_param key place) = rw (key-self key) (eq-eqb place place refl)
 
-entity-is : (first second : Entity) → same_entity first second ≡ true → first ≡ second
-entity-is (class_entity first) (class_entity second) is = ap (λ number. class_entity number) (eqb-true first second is)
-entity-is (member_entity first) (member_entity second) is = ap (λ key. member_entity key) (key-is first second is)
-entity-is (method_entity first) (method_entity second) is = ap (λ key. method_entity key) (key-is first second is)
-entity-is (param_entity first place) (param_entity second other) is =
+item-is : (first second : Numbered) → same_numbered first second ≡ true → first ≡ second
+item-is (numbered_class first) (numbered_class second) is = ap (λ number. numbered_class number) (eqb-true first second is)
+item-is (numbered_member first) (numbered_member second) is = ap (λ key. numbered_member key) (key-is first second is)
+item-is (numbered_method first) (numbered_method second) is = ap (λ key. numbered_method key) (key-is first second is)
+item-is (numbered_param first place) (numbered_param second other) is =
     let parts = both-true (same_key first second) (place == other) is in
     let key = key-is first second parts.0 in
     let number = eqb-true place other parts.1 in
-    λ i. param_entity (key i) (number i)
-entity-is first second is = absurd (true≢false (sym is))
+    λ i. numbered_param (key i) (number i)
+item-is first second is = absurd (true≢false (sym is))
 
 -- ---- places
 
 -- what is in a list is found there
-found-self : (entity : Entity) (entities : List Entity) → Contains entities entity → find (same_entity entity) entities ≡ Some entity
-found-self entity [] stands = absurd (omega (arith, stands.1))
-found-self entity (first ∷ rest) stands = by (same_entity entity first) refl (λ in_rest. found-self entity rest in_rest) where
-  later : (place : ℕ) → place < length (first ∷ rest) → slice_index_or (first ∷ rest) place entity ≡ entity → same_entity entity first ≡ false
-      → Contains rest entity
-  later zero below is apart = absurd (true≢false (sym (entity-self entity) ∙ ap (same_entity entity) (sym is) ∙ apart))
+found-self : (item : Numbered) (items : List Numbered) → Contains items item → find (same_numbered item) items ≡ Some item
+found-self item [] stands = absurd (omega (arith, stands.1))
+found-self item (first ∷ rest) stands = by (same_numbered item first) refl (λ in_rest. found-self item rest in_rest) where
+  later : (place : ℕ) → place < length (first ∷ rest) → slice_index_or (first ∷ rest) place item ≡ item → same_numbered item first ≡ false
+      → Contains rest item
+  later zero below is apart = absurd (true≢false (sym (item-self item) ∙ ap (same_numbered item) (sym is) ∙ apart))
   later (suc place) below is apart = (place, omega (arith, below), is)
 
-  by : (b : Bool) → same_entity entity first ≡ b → (Contains rest entity → find (same_entity entity) rest ≡ Some entity)
-      → (if b then Some first else find (same_entity entity) rest) ≡ Some entity
-  by true is onward = ap (λ found. Some found) (sym (entity-is entity first is))
+  by : (b : Bool) → same_numbered item first ≡ b → (Contains rest item → find (same_numbered item) rest ≡ Some item)
+      → (if b then Some first else find (same_numbered item) rest) ≡ Some item
+  by true is onward = ap (λ found. Some found) (sym (item-is item first is))
   by false apart onward = onward (later stands.0 stands.1 stands.2 apart)
 
-number_apart : (files : Files) (first second : Entity) → Contains (in_order files) first → Contains (in_order files) second
+number_apart : (files : Files) (first second : Numbered) → Contains (in_order files) first → Contains (in_order files) second
     → id_at files first ≡ id_at files second → first ≡ second
 number_apart files first second stands other same =
-    let at : position_or_len (same_entity first) (in_order files) ≡ position_or_len (same_entity second) (in_order files)
-    = let next : suc (position_or_len (same_entity first) (in_order files)) ≡ suc (position_or_len (same_entity second) (in_order files))
+    let at : position_or_len (same_numbered first) (in_order files) ≡ position_or_len (same_numbered second) (in_order files)
+    = let next : suc (position_or_len (same_numbered first) (in_order files)) ≡ suc (position_or_len (same_numbered second) (in_order files))
     = ap (λ (id : Id). id.num) same in omega (arith, next) in
-    let found : Some first ≡ Some second = sym (found-self first (in_order files) stands) ∙ find_at (same_entity first) (in_order files)
-    ∙ ap (slice_get (in_order files)) at ∙ sym (find_at (same_entity second) (in_order files))
+    let found : Some first ≡ Some second = sym (found-self first (in_order files) stands) ∙ find_at (same_numbered first) (in_order files)
+    ∙ ap (slice_get (in_order files)) at ∙ sym (find_at (same_numbered second) (in_order files))
     ∙ found-self second (in_order files) other in
     cc
 

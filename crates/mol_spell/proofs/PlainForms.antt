@@ -12,7 +12,7 @@ use Rattle.mol_values.specs.declared.known.Known.{Known}
 use Rattle.mol_spell.specs.Expected.{known_of, value_of}
 use Rattle.mol_spell.specs.Files.{Files}
 use Rattle.mol_spell.specs.Laws.{PlainForms}
-use Rattle.mol_spell.specs.Numbering.{Entity, id_at}
+use Rattle.mol_spell.specs.Numbering.{Numbered, id_at}
 use Rattle.mol_spell.specs.ReadAs.{SaysValue, equal_value, Holds, HoldsWhatIsSaid, IsPlain}
 
 none-is : {A : Type 0} (o : Option A) → is_some o ≡ false → o ≡ None
@@ -39,11 +39,11 @@ module _ (files : Files) where
     by None none (Some known) is = sym none ∙ known-too second first other plain id known is
 
   -- a cell of a program in plain form holds what the files say
-  cell-said : (program : Program) → IsPlain files program → (id : Id) (slot : Slot) (entity : Entity) → id_at files entity ≡ id
-      → Holds (λ said held. held ≡ said) program (id_at files entity) slot (value_of files entity slot)
-      → value_at program id slot ≡ value_of files entity slot
-  cell-said program plain id slot entity at held =
-      subst (λ here. value_at program here slot ≡ value_of files entity slot) at (held.holds ∙ ap (λ value. Some value) held.agree ∙ sym held.says)
+  cell-said : (program : Program) → IsPlain files program → (id : Id) (slot : Slot) (item : Numbered) → id_at files item ≡ id
+      → Holds (λ said held. held ≡ said) program (id_at files item) slot (value_of files item slot)
+      → value_at program id slot ≡ value_of files item slot
+  cell-said program plain id slot item at held =
+      subst (λ here. value_at program here slot ≡ value_of files item slot) at (held.holds ∙ ap (λ value. Some value) held.agree ∙ sym held.says)
 
   module _ (first second : Program) (ruled : IsProgram first) (other-ruled : IsProgram second) (plain : IsPlain files first)
       (other : IsPlain files second) where
@@ -74,8 +74,8 @@ module _ (files : Files) where
         λ i. record { cells = cells i; known = known i }
 
 plain_holds : (files : Files) (program : Program) → IsPlain files program → HoldsWhatIsSaid files program
-plain_holds files program plain entity stands slot has =
-    let held = plain.holds entity stands slot has in record {
+plain_holds files program plain item stands slot has =
+    let held = plain.holds item stands slot has in record {
       text = held.text;
       held = held.held;
       says = held.says;

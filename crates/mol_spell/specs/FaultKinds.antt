@@ -1,8 +1,8 @@
 -- The kinds of faults that keep source files from being a program.
 use Rattle.std.specs.Prelude.{ℕ}
 
--- In the order in which those of one place are told. What each is stands in `ResolveFaults`; the last five, and the first of them, are
--- met in trees.
+-- Of several faults of one place the first in this order is reported. What each is stands in `ResolveFaults`; the last five are met in
+-- trees.
 pub data FaultKind : Type 0 where
   path_differs : FaultKind
   duplicate_class : FaultKind

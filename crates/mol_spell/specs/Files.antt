@@ -1,5 +1,6 @@
 -- Source files with their paths, and what stands in them.
-use Rattle.std.specs.Prelude.{◌≡◌, ℕ, List, [], map, Option, Some, slice_get, find}
+use Rattle.std.specs.Prelude.{◌≡◌, ℕ, List, [], map, Option, Some, option_map, slice_get, find}
+use Rattle.std.specs.Option.{option_and_then}
 use Rattle.std.specs.Ordering.{is_eq}
 use Rattle.jav_tree.specs.declared.types.TypeName.{TypeName}
 use Rattle.jav_tree.specs.declared.unit.Member.{Member}
@@ -50,13 +51,32 @@ place_of_member (member.Field f) = f.at
 place_of_member (member.Method m) = m.at
 place_of_member (member.Ctor c) = c.at
 
--- a type in a file
-abbrev pub type_of_file : Files → ℕ → File → TypeName → ViewType ℕ
-type_of_file files number file = type_in (classes_of (units files)) (header_of (number, file.unit))
-
-abbrev pub param_types : Files → ℕ → File → Member → List (ViewType ℕ)
-param_types files number file member = map (λ (param : Param). type_of_file files number file param.ty) (params_of member)
+-- a type in a file of this number
+abbrev pub type_of_file : Files → ℕ × File → TypeName → ViewType ℕ
+type_of_file files file = type_in (classes_of (units files)) (header_of (file.0, file.1.unit))
 
 -- the declaration of a key, if there is one
 abbrev pub declaration_at : {C M : Type 0} → View C M → M → Option (ViewDeclaration C M)
 declaration_at {C} {M} view key = find (λ (declared : ViewDeclaration C M). is_eq (view.member_cmp declared.key key)) view.declarations
+
+-- A member where it stands: its file with the number of that, and its declaration unless it is a field.
+pub record PlacedMember : Type 0 where
+  pub number : ℕ
+  pub file : File
+  pub member : Member
+  pub declared : Option (ViewDeclaration ℕ MemberKey)
+
+-- in a numbered file, the member of a number
+abbrev pub placed : Files → ℕ × File → ℕ × Member → PlacedMember
+placed files file member = record {
+  number = file.0;
+  file = file.1;
+  member = member.1;
+  declared = declaration_at (files_view files) (record { unit = file.0; member = member.0 });
+}
+
+-- the member of a key, if there is one
+abbrev pub member_at : Files → MemberKey → Option PlacedMember
+member_at files key = option_and_then
+    (λ (file : File). option_map (λ member. placed files (key.unit, file) (key.member, member))
+    (slice_get file.unit.class.members key.member)) (slice_get files key.unit)

@@ -3,7 +3,7 @@ use Rattle.std.specs.Prelude.{◌≡◌, ℕ, Contains}
 use Rattle.jav_view.specs.Views.{IsOrdered}
 use Rattle.mol_spell.specs.FaultKinds.{FaultKind}
 use Rattle.mol_spell.specs.Files.{Files}
-use Rattle.mol_spell.specs.Numbering.{Entity, in_order, id_at}
+use Rattle.mol_spell.specs.Numbering.{Numbered, in_order, id_at}
 use Rattle.mol_spell.specs.ProgramViews.{program_view}
 use Rattle.mol_spell.specs.ReadAs.{IsPlain, HoldsWhatIsSaid}
 use Rattle.mol_spell.specs.ResolveFaults.{HavePathsApart, IsFirstFault}
@@ -16,7 +16,7 @@ pub record ProgramsViewed : Type 0 where
 
 -- No two of what stands in files have one number.
 pub record NumbersApart : Type 0 where
-  pub apart : (files : Files) (first second : Entity) → Contains (in_order files) first → Contains (in_order files) second
+  pub apart : (files : Files) (first second : Numbered) → Contains (in_order files) first → Contains (in_order files) second
       → id_at files first ≡ id_at files second → first ≡ second
 
 -- Of files with different paths at most one fault is the first.

@@ -3,8 +3,10 @@ pub mod FaultKinds
 pub mod Files
 pub mod Laws
 pub mod Locals
+pub mod MemberFaults
 pub mod Numbering
 pub mod Outcomes
+pub mod ProgramReaders
 pub mod ProgramViews
 pub mod ReadAs
 pub mod ReadFiles

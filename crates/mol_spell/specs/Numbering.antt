@@ -1,5 +1,5 @@
--- How what stands in source files is numbered: from 1, first the classes by the paths of their files; then their members, file by file,
--- as they stand in them; then the methods, in the order of their topmost declarations, each followed by its parameters.
+-- The numbers of what stands in source files. Classes come first, by the paths of their files; then all members, in the same order of
+-- files and as they stand in a file; then each method with its parameters, where its topmost declaration stands. They count from 1.
 use Rattle.std.specs.Prelude.{ℕ, suc, ◌==◌, Bool, false, ◌&&◌, List, [], ◌∷◌, ◌++◌, map, length, unwrap_or, if◌then◌else◌, reverse}
 use Rattle.std.specs.List.{flat_map, position_or_len, range_with_len}
 use Rattle.std.specs.Option.{option_map_or}
@@ -17,30 +17,30 @@ use Rattle.mol_spell.specs.Readers.{Ids}
 
 -- ---- what has a number
 
--- A class, by the number of its file; a member; the method or constructor whose topmost declaration this is; and the parameter of that
--- at a place of its list.
-pub data Entity : Type 0 where
-  class_entity : ℕ → Entity
-  member_entity : MemberKey → Entity
-  method_entity : MemberKey → Entity
-  param_entity : MemberKey → ℕ → Entity
+-- A class, by the number of its file; a member; the method or constructor whose topmost declaration has this key; and the parameter of
+-- that at a place of its list.
+pub data Numbered : Type 0 where
+  numbered_class : ℕ → Numbered
+  numbered_member : MemberKey → Numbered
+  numbered_method : MemberKey → Numbered
+  numbered_param : MemberKey → ℕ → Numbered
 
 abbrev pub same_key : MemberKey → MemberKey → Bool
 same_key first second = is_eq (member_key_cmp first second)
 
-abbrev pub same_entity : Entity → Entity → Bool
-same_entity (class_entity first) (class_entity second) = first == second
-same_entity (member_entity first) (member_entity second) = same_key first second
-same_entity (method_entity first) (method_entity second) = same_key first second
-same_entity (param_entity first place) (param_entity second other) = same_key first second && place == other
-same_entity first second = false
+abbrev pub same_numbered : Numbered → Numbered → Bool
+same_numbered (numbered_class first) (numbered_class second) = first == second
+same_numbered (numbered_member first) (numbered_member second) = same_key first second
+same_numbered (numbered_method first) (numbered_method second) = same_key first second
+same_numbered (numbered_param first place) (numbered_param second other) = same_key first second && place == other
+same_numbered first second = false
 
 -- ---- methods (JLS 8.4.8)
 
--- The topmost declaration of the method of a declaration: from the class of the declaration up, that in the last class that declares
--- this name and number of parameters. A constructor is a method by itself.
-abbrev pub top : {C M : Type 0} → View C M → ViewDeclaration C M → ViewDeclaration C M
-top {C} {M} view declared =
+-- The topmost declaration of the method of a declaration: on the way up from its class, the declaration of this name and number of
+-- parameters that is met last. A constructor is a method by itself.
+abbrev pub topmost : {C M : Type 0} → View C M → ViewDeclaration C M → ViewDeclaration C M
+topmost {C} {M} view declared =
     if is_constructor declared.kind then declared else unwrap_or (nearest view (λ (other : ViewDeclaration C M). other.owner)
     (is_method declared.name declared.arity) view.declarations (reverse (way view declared.owner))) declared
 
@@ -70,38 +70,38 @@ abbrev pub keys_in_order : Files → List MemberKey
 keys_in_order files = flat_map member_keys (by_path (numbered files))
 
 -- a method and its parameters, at its topmost declaration
-abbrev pub method_entities : View ℕ MemberKey → ViewDeclaration ℕ MemberKey → List Entity
-method_entities view declared =
-    if same_key (top view declared).key declared.key
-    then method_entity declared.key ∷ map (param_entity declared.key) (below declared.arity) else []
+abbrev pub numbered_in_method : View ℕ MemberKey → ViewDeclaration ℕ MemberKey → List Numbered
+numbered_in_method view declared =
+    if same_key (topmost view declared).key declared.key
+    then numbered_method declared.key ∷ map (numbered_param declared.key) (below declared.arity) else []
 
-abbrev pub entities_of_key : View ℕ MemberKey → MemberKey → List Entity
-entities_of_key view key = option_map_or (method_entities view) (declaration_at view key) []
+abbrev pub numbered_at_key : View ℕ MemberKey → MemberKey → List Numbered
+numbered_at_key view key = option_map_or (numbered_in_method view) (declaration_at view key) []
 
 -- by the view of the files
-abbrev pub order_by : View ℕ MemberKey → Files → List Entity
+abbrev pub order_by : View ℕ MemberKey → Files → List Numbered
 order_by view files =
-    map (λ (file : ℕ × File). class_entity file.0) (by_path (numbered files)) ++ map member_entity (keys_in_order files)
-    ++ flat_map (entities_of_key view) (keys_in_order files)
+    map (λ (file : ℕ × File). numbered_class file.0) (by_path (numbered files)) ++ map numbered_member (keys_in_order files)
+    ++ flat_map (numbered_at_key view) (keys_in_order files)
 
-abbrev pub in_order : Files → List Entity
+abbrev pub in_order : Files → List Numbered
 in_order files = order_by (files_view files) files
 
 -- ---- identities
 
 -- the identity of a base that something has, by its place in the order
-abbrev pub id_by : View ℕ MemberKey → Files → Entity → Id
-id_by view files entity = base_id (suc (position_or_len (same_entity entity) (order_by view files)))
+abbrev pub id_by : View ℕ MemberKey → Files → Numbered → Id
+id_by view files item = base_id (suc (position_or_len (same_numbered item) (order_by view files)))
 
-abbrev pub id_at : Files → Entity → Id
+abbrev pub id_at : Files → Numbered → Id
 id_at files = id_by (files_view files) files
 
 abbrev pub ids_by : View ℕ MemberKey → Files → Ids ℕ MemberKey
 ids_by view files = record {
-  class_id = λ number. id_by view files (class_entity number);
-  member_id = λ key. id_by view files (member_entity key);
-  method_id = λ declared. id_by view files (method_entity (top view declared).key);
-  param_ids = λ declared. map (λ place. id_by view files (param_entity (top view declared).key place)) (below declared.arity);
+  class_id = λ number. id_by view files (numbered_class number);
+  member_id = λ key. id_by view files (numbered_member key);
+  method_id = λ declared. id_by view files (numbered_method (topmost view declared).key);
+  param_ids = λ declared. map (λ place. id_by view files (numbered_param (topmost view declared).key place)) (below declared.arity);
 }
 
 abbrev pub ids_of : Files → Ids ℕ MemberKey

@@ -8,7 +8,7 @@ pub record TreeFault : Type 0 where
   pub kind : FaultKind
   pub at : ℕ
 
--- There may be neither a value nor a fault, where a fault elsewhere says all that there is to say.
+-- There may be neither a value nor a fault: then there is a fault elsewhere that says what is wrong.
 pub record Outcome (A : Type 0) : Type 0 where
   pub value : Option A
   pub faults : List TreeFault
@@ -29,7 +29,7 @@ with_faults faults outcome = record { value = outcome.value; faults = faults ++ 
 abbrev pub mapped : {A B : Type 0} → (A → B) → Outcome A → Outcome B
 mapped make part = record { value = option_map make part.value; faults = part.faults }
 
--- Something over a part: nothing is made, and nothing said, where the part has no value.
+-- Something over a part: where the part has no value nothing is made, and the faults are those of the part.
 abbrev pub over_value : {A B : Type 0} → Option A → List TreeFault → (A → Outcome B) → Outcome B
 over_value None faults make = record { value = None; faults = faults }
 over_value (Some a) faults make = with_faults faults (make a)

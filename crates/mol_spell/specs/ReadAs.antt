@@ -12,6 +12,7 @@ use Rattle.mol_table.specs.Program.{Program, value_at}
 use Rattle.mol_table.specs.Tidy.{tidy}
 use Rattle.mol_values.specs.Slots.{has_slot}
 use Rattle.mol_values.specs.declared.cell.Slot.{Slot}
+use Rattle.mol_values.specs.declared.cell.Slot.TheVariants as slots
 use Rattle.mol_values.specs.declared.iexpr.IExpr.{IExpr}
 use Rattle.mol_values.specs.declared.itype.IType.{IType}
 use Rattle.mol_values.specs.declared.iblock.IBlock.{IBlock}
@@ -20,14 +21,14 @@ use Rattle.mol_values.specs.declared.param.Param.{Param}
 use Rattle.mol_values.specs.declared.value.Value.{Value}
 use Rattle.mol_values.specs.declared.value.Value.TheVariants as values
 use Rattle.jav_tree.specs.Trees.{IsUnit}
-use Rattle.jav_view.specs.Ancestors.{Way}
 use Rattle.jav_view.specs.DottedNames.{Name}
+use Rattle.jav_view.specs.Standing.{IsMethodOf}
 use Rattle.jav_view.specs.UnitViews.{MemberKey}
 use Rattle.jav_view.specs.Views.{constructor, ViewDeclaration}
 use Rattle.mol_spell.specs.Expected.{known_of, value_of}
 use Rattle.mol_spell.specs.FaultKinds.{FaultKind}
 use Rattle.mol_spell.specs.Files.{File, Files, files_view}
-use Rattle.mol_spell.specs.Numbering.{Entity, in_order, id_at, top}
+use Rattle.mol_spell.specs.Numbering.{Numbered, numbered_member, in_order, id_at}
 use Rattle.mol_spell.specs.ResolveFaults.{Fails}
 use Rattle.mol_spell.specs.Says.{SaysType, SaysMaybe}
 use Rattle.mol_spell.specs.SaysStatements.{SaysBlock}
@@ -49,18 +50,18 @@ pub data SaysValue : Value → Value → Type 0 where
       → SaysValue (values.Params all_said) (values.Params all_held)
   says_body : {said held : IBlock} → SaysBlock said held
       → SaysValue (values.Body (Some (record { block = said }))) (values.Body (Some (record { block = held })))
-  says_value : {said held : IType} {init other : Option IExpr} → SaysType said held → SaysMaybe init other
-      → SaysValue (values.Value said init) (values.Value held other)
+  says_value : {said held : IType} {said_init held_init : Option IExpr} → SaysType said held → SaysMaybe said_init held_init
+      → SaysValue (values.Value said said_init) (values.Value held held_init)
 
 -- ---- what a program holds
 
 -- Each class, member, method and parameter of the files has its number as identity, and is known as what it is; and nothing else is
 -- known.
 pub record IsNumbered (files : Files) (program : Program) : Type 0 where
-  pub each : (entity : Entity) → Contains (in_order files) entity
-      → (known : Known) × ((known_of files entity ≡ Some known) × (get program.known (id_at files entity) ≡ Some known))
+  pub each : (item : Numbered) → Contains (in_order files) item
+      → (known : Known) × ((known_of files item ≡ Some known) × (get program.known (id_at files item) ≡ Some known))
   pub only : (id : Id) (known : Known) → get program.known id ≡ Some known
-      → (entity : Entity) × (Contains (in_order files) entity × (id_at files entity ≡ id))
+      → (item : Numbered) × (Contains (in_order files) item × (id_at files item ≡ id))
 
 -- a cell holds a value that agrees with what the files say
 pub record Holds (Agree : Value → Value → Type 0) (program : Program) (id : Id) (slot : Slot) (said : Option Value) : Type 0 where
@@ -72,8 +73,8 @@ pub record Holds (Agree : Value → Value → Type 0) (program : Program) (id : 
 
 -- so does each cell of each class, member and method of the files
 abbrev pub HoldsAll : (Value → Value → Type 0) → Files → Program → Type 0
-HoldsAll Agree files program = (entity : Entity) → Contains (in_order files) entity → (slot : Slot)
-    → IsTrue (has_slot (known_of files entity) slot) → Holds Agree program (id_at files entity) slot (value_of files entity slot)
+HoldsAll Agree files program = (item : Numbered) → Contains (in_order files) item → (slot : Slot)
+    → IsTrue (has_slot (known_of files item) slot) → Holds Agree program (id_at files item) slot (value_of files item slot)
 
 -- Each name reads as what the program has there, all other words agree, and `fixed` is as the name and the number of parameters say.
 abbrev pub HoldsWhatIsSaid : Files → Program → Type 0
@@ -81,45 +82,25 @@ HoldsWhatIsSaid = HoldsAll SaysValue
 
 -- ---- methods
 
--- a class on the way up from another declares this name and number of parameters
-pub record DeclaresAbove (files : Files) (class above : ℕ) (name : Name) (arity : ℕ) : Type 0 where
-  pub declaration : ViewDeclaration ℕ MemberKey
-  pub stands : Contains (files_view files).declarations declaration
-  pub owner : declaration.owner ≡ above
-  pub is_method : declaration.kind ≢ constructor
-  pub named : declaration.name ≡ name
-  pub takes : declaration.arity ≡ arity
-  pub classes : List ℕ
-  pub way : Way (files_view files) class classes
-  pub met : Contains classes above
-
--- Two declarations have one name and number of parameters, and some class that declares these is, or is an ancestor of, both owners.
+-- Two declarations have one name and number of parameters, and so has one in the class of each or in a class above it: the same for both.
 pub record ShareMethod (files : Files) (first second : ViewDeclaration ℕ MemberKey) : Type 0 where
   pub named : first.name ≡ second.name
   pub as_many : first.arity ≡ second.arity
-  pub above : ℕ
-  pub first_below : DeclaresAbove files first.owner above first.name first.arity
-  pub second_below : DeclaresAbove files second.owner above second.name second.arity
+  pub above : ViewDeclaration ℕ MemberKey
+  pub first_below : IsMethodOf (files_view files) first.owner first.name first.arity above
+  pub second_below : IsMethodOf (files_view files) second.owner second.name second.arity above
 
--- Two declarations that are no constructors are of one method exactly where they share one.
-abbrev pub MethodsByName : Files → Type 0
-MethodsByName files = (first second : ViewDeclaration ℕ MemberKey) → Contains (files_view files).declarations first
+-- the cell that holds the method of a declaration
+abbrev pub method_held : Files → Program → ViewDeclaration ℕ MemberKey → Option Value
+method_held files program declared = value_at program (id_at files (numbered_member declared.key)) slots.Method
+
+-- Two declarations that are no constructors have one method exactly where they share one.
+abbrev pub MethodsByName : Files → Program → Type 0
+MethodsByName files program = (first second : ViewDeclaration ℕ MemberKey) → Contains (files_view files).declarations first
     → Contains (files_view files).declarations second → first.kind ≢ constructor → second.kind ≢ constructor
-    → ((top (files_view files) first).key ≡ (top (files_view files) second).key) ↔ ShareMethod files first second
+    → (method_held files program first ≡ method_held files program second) ↔ ShareMethod files first second
 
--- ---- source files
-
--- a path, and the bytes that stand there
-pub record SourceText : Type 0 where
-  pub path : Name
-  pub bytes : Name
-
--- the bytes are a source file, within the limits of height and number
-pub record IsParsed (text : SourceText) (file : File) : Type 0 where
-  pub path : file.path ≡ text.path
-  pub tokens : List Token
-  pub lexes : IsSource text.bytes tokens
-  pub parses : IsUnit max_items (most Height) file.unit tokens
+-- ---- files that read as a program
 
 -- none of the fourteen faults holds
 abbrev pub HasNoFault : Files → Type 0
@@ -129,21 +110,38 @@ HasNoFault files = (kind : FaultKind) (number at : ℕ) → ¬ Fails files kind 
 abbrev pub KnowsLivingAlone : Program → Type 0
 KnowsLivingAlone program = (id : Id) → IsTrue (is_some (get program.known id)) → IsTrue (lives program id)
 
--- ---- reading files
+-- The files read as the program: they have no fault, it has what they say under their numbers, and else nothing.
+pub record FilesReadAs (files : Files) (program : Program) : Type 0 where
+  pub no_fault : HasNoFault files
+  pub numbered : IsNumbered files program
+  pub holds : HoldsWhatIsSaid files program
+  pub methods : MethodsByName files program
+  pub tidied : tidy program ≡ program
+  pub all_live : KnowsLivingAlone program
+
+-- The program is in plain form: where it could say the same in several words it has those that reading gives, and fillers are those of the
+-- types of parameters.
+pub record IsPlain (files : Files) (program : Program) : Type 0 where
+  pub no_fault : HasNoFault files
+  pub numbered : IsNumbered files program
+  pub holds : HoldsAll (λ said held. held ≡ said) files program
+
+-- ---- texts that do
+
+-- a path, and the bytes that stand there
+pub record SourceText : Type 0 where
+  pub path : Name
+  pub bytes : List ℕ
+
+-- The bytes are the text of this file, which is within the limits of height and number.
+pub record IsParsed (text : SourceText) (file : File) : Type 0 where
+  pub path : file.path ≡ text.path
+  pub tokens : List Token
+  pub lexes : IsSource text.bytes tokens
+  pub parses : IsUnit max_items (most Height) file.unit tokens
 
 -- The texts read as the program.
 pub record ReadAs (texts : List SourceText) (program : Program) : Type 0 where
   pub files : Files
   pub parsed : AllZip IsParsed texts files
-  pub no_fault : HasNoFault files
-  pub numbered : IsNumbered files program
-  pub holds : HoldsWhatIsSaid files program
-  pub methods : MethodsByName files
-  pub tidied : tidy program ≡ program
-  pub all_live : KnowsLivingAlone program
-
--- The program is in plain form: of several words for one text and one meaning it has that which reading gives, and fillers are those
--- of the types of parameters.
-pub record IsPlain (files : Files) (program : Program) : Type 0 where
-  pub numbered : IsNumbered files program
-  pub holds : HoldsAll (λ said held. held ≡ said) files program
+  pub read : FilesReadAs files program

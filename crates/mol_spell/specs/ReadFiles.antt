@@ -4,6 +4,8 @@ use Rattle.std.specs.List.{flat_map, list_any, zip}
 use Rattle.std.specs.Option.{option_map_or}
 use Rattle.std.specs.Str.{bytes_eq}
 use Rattle.mol_base.specs.declared.ident.Id.{Id}
+use Rattle.jav_tree.specs.declared.stmt.Block.{Block}
+use Rattle.jav_tree.specs.declared.unit.Field.{Field}
 use Rattle.jav_tree.specs.declared.unit.Member.{Member}
 use Rattle.jav_tree.specs.declared.unit.Member.TheVariants as member
 use Rattle.jav_tree.specs.declared.unit.Param.{Param}
@@ -11,12 +13,14 @@ use Rattle.jav_view.specs.DottedNames.{Names}
 use Rattle.jav_view.specs.UnitViews.{MemberKey, header_of, numbered}
 use Rattle.jav_view.specs.Views.{ViewDeclaration}
 use Rattle.mol_spell.specs.FaultKinds.{redeclared}
-use Rattle.mol_spell.specs.Files.{File, Files, files_view, params_of, declaration_at}
+use Rattle.mol_spell.specs.Files.{File, Files, files_view, params_of, PlacedMember, placed}
 use Rattle.mol_spell.specs.Numbering.{ids_of}
-use Rattle.mol_spell.specs.Outcomes.{TreeFault, maybe}
+use Rattle.mol_spell.specs.Outcomes.{TreeFault, Outcome, both, all, maybe}
 use Rattle.mol_spell.specs.Readers.{Parameter, Reader}
 use Rattle.mol_spell.specs.ReadStatements.{read_initial, read_body}
-use Rattle.mol_spell.specs.ReadTypes.{read_type, seen_type}
+use Rattle.mol_spell.specs.ReadTypes.{ReadType, read_type, seen_type}
+use Rattle.mol_values.specs.declared.iblock.IBody.{IBody}
+use Rattle.mol_values.specs.declared.iexpr.IExpr.{IExpr}
 
 -- ---- readers
 
@@ -43,41 +47,48 @@ is_constructor_member (member.Field f) = false
 is_constructor_member (member.Method m) = false
 is_constructor_member (member.Ctor c) = true
 
--- in a member of a file, which is this declaration unless it is a field
-abbrev pub member_reader : Files → ℕ × File → Option (ViewDeclaration ℕ MemberKey) → Member → Reader ℕ MemberKey
-member_reader files file declared member = record (file_reader files file) {
-  params = map (parameter_of (file_reader files file)) (zip (declared_ids files declared) (params_of member));
-  in_constructor = is_constructor_member member;
+-- in a member
+abbrev pub member_reader : Files → PlacedMember → Reader ℕ MemberKey
+member_reader files at = record (file_reader files (at.number, at.file)) {
+  params = map (parameter_of (file_reader files (at.number, at.file))) (zip (declared_ids files at.declared) (params_of at.member));
+  in_constructor = is_constructor_member at.member;
 }
 
--- the same by the number of the member
-abbrev pub numbered_reader : Files → ℕ × File → ℕ × Member → Reader ℕ MemberKey
-numbered_reader files file numbered =
-    member_reader files file (declaration_at (files_view files) (record { unit = file.0; member = numbered.0 })) numbered.1
+-- ---- what a member says
+
+abbrev pub read_field : Reader ℕ MemberKey → Field → Outcome (ReadType ℕ × Option IExpr)
+read_field reader field = both (read_type reader field.at field.ty) (read_initial reader field.init)
+
+-- the types of a list of parameters
+abbrev pub read_params : Reader ℕ MemberKey → ℕ → List Param → Outcome (List (ReadType ℕ))
+read_params reader at params = all (map (λ (param : Param). read_type reader at param.ty) params)
+
+-- a body, if a method has one
+abbrev pub read_block : Reader ℕ MemberKey → Option Block → Outcome (Option IBody)
+read_block reader block = maybe (option_map (read_body reader) block)
 
 -- ---- faults of a member
 
--- two parameters have one name (JLS 8.4.1)
+-- whether two of these names are one
 abbrev pub is_repeated : Names → Bool
 is_repeated [] = false
 is_repeated (name ∷ names) = list_any (bytes_eq name) names || is_repeated names
 
+-- No two parameters have one name (JLS 8.4.1).
 abbrev pub repeated_faults : ℕ → List Param → List TreeFault
 repeated_faults at params =
     if is_repeated (map (λ (param : Param). param.name) params) then record { kind = redeclared; at = at } ∷ [] else []
 
--- what is met in a list of parameters
-abbrev pub params_faults : Reader ℕ MemberKey → ℕ → List Param → List TreeFault
-params_faults reader at params = flat_map (λ (param : Param). (read_type reader at param.ty).faults) params ++ repeated_faults at params
-
+-- What is met in a member whose trees are read so. Each of its parts tells what it meets, whatever the others come to.
 abbrev pub faults_in : Reader ℕ MemberKey → Member → List TreeFault
-faults_in reader (member.Field f) = (read_type reader f.at f.ty).faults ++ (read_initial reader f.init).faults
-faults_in reader (member.Method m) = (read_type reader m.at m.result).faults ++ params_faults reader m.at m.params
-    ++ (maybe (option_map (read_body reader) m.block)).faults
-faults_in reader (member.Ctor c) = params_faults reader c.at c.params ++ (read_body reader c.block).faults
+faults_in reader (member.Field f) = (read_field reader f).faults
+faults_in reader (member.Method m) = (read_type reader m.at m.result).faults ++ (read_params reader m.at m.params).faults
+    ++ repeated_faults m.at m.params ++ (read_block reader m.block).faults
+faults_in reader (member.Ctor c) =
+    (read_params reader c.at c.params).faults ++ repeated_faults c.at c.params ++ (read_body reader c.block).faults
 
-abbrev pub member_faults : Files → ℕ × File → ℕ × Member → List TreeFault
-member_faults files file numbered = faults_in (numbered_reader files file numbered) numbered.1
+abbrev pub member_faults : Files → PlacedMember → List TreeFault
+member_faults files at = faults_in (member_reader files at) at.member
 
 -- ---- faults of a file
 
@@ -86,4 +97,5 @@ abbrev pub superclass_faults : Files → ℕ × File → List TreeFault
 superclass_faults files file = option_map_or (λ ty. (read_type (file_reader files file) 0 ty).faults) file.1.unit.class.parent []
 
 abbrev pub tree_faults : Files → ℕ × File → List TreeFault
-tree_faults files file = superclass_faults files file ++ flat_map (member_faults files file) (numbered file.1.unit.class.members)
+tree_faults files file =
+    superclass_faults files file ++ flat_map (λ member. member_faults files (placed files file member)) (numbered file.1.unit.class.members)

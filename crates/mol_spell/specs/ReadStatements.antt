@@ -1,6 +1,7 @@
 -- Statements read as statements of a program (JLS 14), with the locals that they declare.
 use Rattle.std.specs.Prelude.{ℕ, Bool, List, [], ◌∷◌, ◌++◌, map, length, Option, Some, None, option_map, if◌then◌else◌}
 use Rattle.std.specs.List.{list_any}
+use Rattle.std.specs.Option.{option_map_or}
 use Rattle.std.specs.Str.{bytes_eq}
 use Rattle.jav_tree.specs.declared.expr.Expr.{Expr}
 use Rattle.jav_tree.specs.declared.stmt.Block.{Block, fold-Block}
@@ -15,9 +16,9 @@ use Rattle.jav_view.specs.Members.{Constructor, declared_constructor, default_co
 use Rattle.jav_view.specs.Views.{ViewType, Found, found, outside, not_found}
 use Rattle.mol_spell.specs.FaultKinds.{redeclared, unknown_member}
 use Rattle.mol_spell.specs.Locals.{Locals, no_locals, declare, at_end_of_block, names_in_scope}
-use Rattle.mol_spell.specs.Outcomes.{TreeFault, Outcome, fine, silent, refused, with_faults, mapped, over, both, all, maybe}
+use Rattle.mol_spell.specs.Outcomes.{TreeFault, Outcome, fine, refused, with_faults, mapped, over, both, put_first, all, maybe}
 use Rattle.mol_spell.specs.Readers.{Reader, param_names}
-use Rattle.mol_spell.specs.ReadTrees.{arguments_for, read_expr}
+use Rattle.mol_spell.specs.ReadTrees.{with_params, read_expr}
 use Rattle.mol_spell.specs.ReadTypes.{ReadType, read_type, seen_type}
 use Rattle.mol_values.specs.Blocks.{block_of, branch_of}
 use Rattle.mol_values.specs.declared.iblock.IBlock.{IBlock}
@@ -36,38 +37,35 @@ use Rattle.mol_values.specs.declared.iexpr.IExpr.{IExpr}
 
 -- ---- reading on
 
--- what something reads as, and the locals after it
-pub record Passed (C A : Type 0) : Type 0 where
+-- what something reads as where reading goes on, and the locals after it
+pub record ReadOn (C A : Type 0) : Type 0 where
   pub locals : Locals C
   pub outcome : Outcome A
 
 -- reading on from the locals before something
 abbrev pub ReadsTo : Type 0 → Type 0 → Type 0
-ReadsTo C A = Locals C → Passed C A
+ReadsTo C A = Locals C → ReadOn C A
 
 -- what declares nothing
-abbrev pub declaring_none : {C A : Type 0} → Locals C → Outcome A → Passed C A
+abbrev pub declaring_none : {C A : Type 0} → Locals C → Outcome A → ReadOn C A
 declaring_none locals outcome = record { locals = locals; outcome = outcome }
 
-abbrev pub passed_map : {C A B : Type 0} → (A → B) → Passed C A → Passed C B
-passed_map make part = record { locals = part.locals; outcome = mapped make part.outcome }
+abbrev pub mapped_on : {C A B : Type 0} → (A → B) → ReadOn C A → ReadOn C B
+mapped_on make part = record { locals = part.locals; outcome = mapped make part.outcome }
 
 -- one, and then the next with the locals after it
-abbrev pub followed_by : {C A B : Type 0} → Passed C A → Passed C B → Passed C (A × B)
+abbrev pub followed_by : {C A B : Type 0} → ReadOn C A → ReadOn C B → ReadOn C (A × B)
 followed_by first next = record { locals = next.locals; outcome = both first.outcome next.outcome }
 
-abbrev pub then_next : {C A B : Type 0} → Passed C A → ReadsTo C B → Passed C (A × B)
+abbrev pub then_next : {C A B : Type 0} → ReadOn C A → ReadsTo C B → ReadOn C (A × B)
 then_next first next = followed_by first (next first.locals)
-
-abbrev pub put_first : {A : Type 0} → A × List A → List A
-put_first parts = parts.0 ∷ parts.1
 
 abbrev pub each : {C A : Type 0} → List (ReadsTo C A) → ReadsTo C (List A)
 each [] locals = declaring_none locals (fine [])
-each (part ∷ parts) locals = passed_map put_first (then_next (part locals) (each parts))
+each (part ∷ parts) locals = mapped_on put_first (then_next (part locals) (each parts))
 
 -- What is declared in a block, and in the header of a `for`, is in scope up to its end (JLS 6.3).
-abbrev pub in_block : {C A : Type 0} → Locals C → Passed C A → Passed C A
+abbrev pub in_block : {C A : Type 0} → Locals C → ReadOn C A → ReadOn C A
 in_block before part = record { locals = at_end_of_block before part.locals; outcome = part.outcome }
 
 -- a statement as it is read, and its branches where it is an `if`, which may follow `else`
@@ -106,7 +104,7 @@ module _ {C M : Type 0} (reader : Reader C M) where
   read_maybe locals e = maybe (option_map (read_expr reader locals) e)
 
   -- its first value is read in its own scope
-  abbrev pub read_declarator : ℕ → ViewType C → Declarator → Locals C → Passed C IDeclarator
+  abbrev pub read_declarator : ℕ → ViewType C → Declarator → Locals C → ReadOn C IDeclarator
   read_declarator at ty declarator locals = declaring_none (declaring ty declarator.name locals)
       (with_faults (redeclared_faults at declarator.name locals)
       (mapped (λ init. record { name = declarator.name; init = init }) (read_maybe (declaring ty declarator.name locals) declarator.init)))
@@ -114,8 +112,8 @@ module _ {C M : Type 0} (reader : Reader C M) where
   abbrev pub let_of : Bool → ReadType C × List IDeclarator → ILet
   let_of is_final parts = record { is_final = is_final; ty = parts.0.tree; names = parts.1 }
 
-  abbrev pub read_let : ℕ → Let → Locals C → Passed C ILet
-  read_let at declared locals = passed_map (let_of declared.is_final)
+  abbrev pub read_let : ℕ → Let → Locals C → ReadOn C ILet
+  read_let at declared locals = mapped_on (let_of declared.is_final)
       (followed_by (declaring_none locals (read_type reader at declared.ty))
       (each (map (read_declarator at (seen_type reader declared.ty)) declared.names) locals))
 
@@ -123,20 +121,20 @@ module _ {C M : Type 0} (reader : Reader C M) where
 
   abbrev pub super_read : ℕ → List IExpr → Found (Constructor C M) → Outcome IStmtNode
   super_read at args (found (declared_constructor declared)) =
-      fine (nodes.Super (reader.ids.method_id declared) (arguments_for (reader.ids.param_ids declared) args))
+      fine (nodes.Super (reader.ids.method_id declared) (with_params (reader.ids.param_ids declared) args))
   super_read at args (found (default_constructor class)) = fine (nodes.SuperDefault (reader.ids.class_id class))
   super_read at args outside = fine (nodes.SuperOutside args)
   super_read at args not_found = refused unknown_member at
 
-  -- outside of a constructor it is no constructor
+  -- It stands in a constructor alone. Which constructor is meant is asked only where its arguments mean something, as after `new`.
   abbrev pub super_if : Bool → ℕ → List IExpr → Found (Constructor C M) → Outcome IStmtNode
   super_if in_constructor at args read = if in_constructor then super_read at args read else refused unknown_member at
 
   -- ---- statements
 
-  abbrev pub read_start : ℕ → ForStart → Locals C → Passed C IForStart
+  abbrev pub read_start : ℕ → ForStart → Locals C → ReadOn C IForStart
   read_start at for_start.None locals = declaring_none locals (fine starts.None)
-  read_start at (for_start.Let declared) locals = passed_map (λ declared. starts.Let declared) (read_let at declared locals)
+  read_start at (for_start.Let declared) locals = mapped_on (λ declared. starts.Let declared) (read_let at declared locals)
   read_start at (for_start.Do es) locals = declaring_none locals (mapped (λ es. starts.Do es) (read_exprs locals es))
 
   -- the header of a `for`, but for its start
@@ -149,35 +147,33 @@ module _ {C M : Type 0} (reader : Reader C M) where
       let body = block (declaring ty name locals) in
       record { locals = at_end_of_block locals body.locals; outcome = with_faults (redeclared_faults at name locals) body.outcome }
 
-  abbrev pub else_if : Option IIf → Outcome IElse
-  else_if None = silent
-  else_if (Some branches) = fine (elses.If branches)
+  -- The grammar has no statement after `else` but an `if` and a block; any other is as in a block of its own.
+  abbrev pub else_of : ReadStatement → IElse
+  else_of read = option_map_or (λ branches. elses.If branches) read.branches (elses.Block (block_of (read.statement ∷ []) []))
 
   abbrev pub else_step : Else-F (ReadsTo C IElse) (ℕ → ReadsTo C ReadNode) (ReadsTo C IBlock) (ReadsTo C ReadStatement)
       → ReadsTo C IElse
   else_step Else-F.None locals = declaring_none locals (fine elses.None)
-  else_step (Else-F.Else::Block block) locals = passed_map (λ block. elses.Block block) (block locals)
-  else_step (Else-F.Else::If statement) locals =
-      let read = statement locals in
-      record { locals = read.locals; outcome = over read.outcome (λ statement. else_if statement.branches) }
+  else_step (Else-F.Else::Block block) locals = mapped_on (λ block. elses.Block block) (block locals)
+  else_step (Else-F.Else::If statement) locals = mapped_on else_of (statement locals)
 
   abbrev pub node_step : StmtNode-F (ReadsTo C IElse) (ℕ → ReadsTo C ReadNode) (ReadsTo C IBlock) (ReadsTo C ReadStatement)
       → ℕ → ReadsTo C ReadNode
-  node_step (StmtNode-F.StmtNode::Block block) at locals = passed_map (λ block. plain (nodes.Block block)) (block locals)
-  node_step (StmtNode-F.Let declared) at locals = passed_map (λ declared. plain (nodes.Let declared)) (read_let at declared locals)
+  node_step (StmtNode-F.StmtNode::Block block) at locals = mapped_on (λ block. plain (nodes.Block block)) (block locals)
+  node_step (StmtNode-F.Let declared) at locals = mapped_on (λ declared. plain (nodes.Let declared)) (read_let at declared locals)
   node_step (StmtNode-F.Do e) at locals = declaring_none locals (mapped (λ e. plain (nodes.Do e)) (read_expr reader locals e))
   node_step (StmtNode-F.StmtNode::If test block otherwise) at locals =
-      passed_map (λ (parts : (IExpr × IBlock) × IElse). branching (branch_of parts.0.0 parts.0.1 parts.1))
+      mapped_on (λ (parts : (IExpr × IBlock) × IElse). branching (branch_of parts.0.0 parts.0.1 parts.1))
       (then_next (then_next (declaring_none locals (read_expr reader locals test)) block) otherwise)
   node_step (StmtNode-F.While test block) at locals =
-      passed_map (λ (parts : IExpr × IBlock). plain (nodes.While parts.0 parts.1))
+      mapped_on (λ (parts : IExpr × IBlock). plain (nodes.While parts.0 parts.1))
       (then_next (declaring_none locals (read_expr reader locals test)) block)
   node_step (StmtNode-F.For start test steps block) at locals =
-      in_block locals (passed_map
+      in_block locals (mapped_on
       (λ (parts : (IForStart × (Option IExpr × List IExpr)) × IBlock). plain (nodes.For parts.0.0 parts.0.1.0 parts.0.1.1 parts.1))
       (then_next (then_next (read_start at start locals) (λ inside. declaring_none inside (read_header inside test steps))) block))
   node_step (StmtNode-F.Each is_final ty name e block) at locals =
-      passed_map (λ (parts : (ReadType C × IExpr) × IBlock). plain (nodes.Each is_final parts.0.0.tree name parts.0.1 parts.1))
+      mapped_on (λ (parts : (ReadType C × IExpr) × IBlock). plain (nodes.Each is_final parts.0.0.tree name parts.0.1 parts.1))
       (then_next (declaring_none locals (both (read_type reader at ty) (read_expr reader locals e)))
       (read_each at (seen_type reader ty) name block))
   node_step (StmtNode-F.Return e) at locals = declaring_none locals (mapped (λ e. plain (nodes.Return e)) (read_maybe locals e))
@@ -192,14 +188,14 @@ module _ {C M : Type 0} (reader : Reader C M) where
   abbrev pub stmt_step : Stmt-F (ReadsTo C IElse) (ℕ → ReadsTo C ReadNode) (ReadsTo C IBlock) (ReadsTo C ReadStatement)
       → ReadsTo C ReadStatement
   stmt_step statement locals =
-      passed_map (statement_of statement.notes) (statement.node statement.at locals)
+      mapped_on (statement_of statement.notes) (statement.node statement.at locals)
 
   abbrev pub block_step : Block-F (ReadsTo C IElse) (ℕ → ReadsTo C ReadNode) (ReadsTo C IBlock) (ReadsTo C ReadStatement)
       → ReadsTo C IBlock
   block_step block locals = in_block locals
-      (passed_map (λ items. block_of (map (λ (read : ReadStatement). read.statement) items) block.tail) (each block.items locals))
+      (mapped_on (λ items. block_of (map (λ (read : ReadStatement). read.statement) items) block.tail) (each block.items locals))
 
-  abbrev pub block_reading : Block → Locals C → Passed C IBlock
+  abbrev pub block_reading : Block → Locals C → ReadOn C IBlock
   block_reading = fold-Block (ReadsTo C IElse) (ℕ → ReadsTo C ReadNode) (ReadsTo C IBlock) (ReadsTo C ReadStatement)
       else_step node_step block_step stmt_step
 

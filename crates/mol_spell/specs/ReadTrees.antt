@@ -1,5 +1,6 @@
 -- Expressions read as expressions of a program (JLS 6.5, 15): each name by the rules, members of a value by its static type.
 use Rattle.std.specs.Prelude.{ℕ, suc, zero, ◌+◌, ◌==◌, Bool, true, false, List, [], ◌∷◌, ◌++◌, map, length, Option, Some, None, option_map, if◌then◌else◌, nat_lt, slice_get, codes}
+use Rattle.std.specs.List.{zip}
 use Rattle.std.specs.Option.{option_map_or}
 use Rattle.std.specs.Str.{bytes_eq}
 use Rattle.mol_base.specs.Operators.{is_step}
@@ -71,11 +72,9 @@ path_by count leftmost_outside = no_path
 
 -- ---- parts of trees
 
--- each argument with its parameter
-abbrev pub arguments_for : List Id → List IExpr → List Argument
-arguments_for [] values = []
-arguments_for (id ∷ ids) [] = []
-arguments_for (id ∷ ids) (value ∷ values) = record { param = id; value = value } ∷ arguments_for ids values
+-- each value with its parameter
+abbrev pub with_params : List Id → List IExpr → List Argument
+with_params ids values = map (λ (pair : Id × IExpr). record { param = pair.0; value = pair.1 }) (zip ids values)
 
 -- an array of arrays, so many times
 abbrev pub arrays : {C : Type 0} → ℕ → ViewType C → ViewType C
@@ -154,7 +153,7 @@ module _ {C M : Type 0} (reader : Reader C M) where
   static_field_meant at None = refused unknown_member at
   static_field_meant at (Some field) = valued (exprs.StaticField (reader.ids.member_id field.key)) (of_type field.type)
 
-  -- The front of a class's name is no value. Where no name follows there is no such class member.
+  -- Names up to a class, or only a part of its full name, are no value. Where a value is wanted that is a fault; else what follows decides.
   abbrev pub front_meant : ℕ → Mode → Outcome (Meant C)
   front_meant at None = refused unknown_member at
   front_meant at (Some follow) = silent
@@ -166,7 +165,7 @@ module _ {C M : Type 0} (reader : Reader C M) where
   abbrev pub field_meant : ℕ → Name → Meant C → OnValue (ViewField C M) → Outcome (Meant C)
   field_meant at name value (member field) = valued (field_on_word value (reader.ids.member_id field.key)) (of_type field.type)
   field_meant at name value (static_member field) = refused static_by_instance at
-  field_meant at name value outside_member = valued (exprs.OutsideField name value.tree) (outside_field value.static_type)
+  field_meant at name value outside_member = valued (exprs.OutsideField name value.tree) (outside_field value.static_type name)
   field_meant at name value missing_member = refused unknown_member at
   field_meant at name value has_no_members = refused receiver_type at
   field_meant at name value unread_member = silent
@@ -179,7 +178,7 @@ module _ {C M : Type 0} (reader : Reader C M) where
   -- ---- calls (JLS 15.12)
 
   abbrev pub arguments_of : ViewDeclaration C M → List IExpr → List Argument
-  arguments_of declared args = arguments_for (reader.ids.param_ids declared) args
+  arguments_of declared args = with_params (reader.ids.param_ids declared) args
 
   abbrev pub static_call : ViewDeclaration C M → List IExpr → Outcome (Meant C)
   static_call declared args =
@@ -256,7 +255,8 @@ module _ {C M : Type 0} (reader : Reader C M) where
 
   -- ---- all expressions
 
-  -- A name in parentheses stands alone (JLS 15.8.5). An expression over one that has a fault has no fault of its own.
+  -- A name in parentheses stands alone (JLS 15.8.5). What an expression means is asked only where all its parts mean something, so that it
+  -- adds no fault to theirs.
   abbrev pub node_meant : ExprNode-F (ℕ → Reading C) (Reading C) → ℕ → Locals C → Mode → Outcome (Meant C)
   node_meant (ExprNode-F.Lit text) at locals mode = valued (exprs.Lit text) (of_literal text)
   node_meant ExprNode-F.This at locals mode = fine (record { tree = exprs.This; is_this = true; static_type = class_value reader.class })

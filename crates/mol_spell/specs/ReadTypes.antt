@@ -54,6 +54,6 @@ module _ {C M : Type 0} (reader : Reader C M) where
   type_or_fault at None ty = refused unknown_member at
   type_or_fault at (Some tree) ty = fine (record { tree = tree; ty = ty })
 
-  -- A type whose name reads as nothing is unknown, at the place of the smallest expression, statement or member that holds it.
+  -- A type whose name reads as nothing is an unknown member. `at` is where the innermost expression, statement or member around it begins.
   abbrev pub read_type : ℕ → TypeName → Outcome (ReadType C)
   read_type at name = type_or_fault at (type_tree name) (seen_type name)

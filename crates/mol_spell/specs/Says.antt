@@ -1,5 +1,7 @@
--- When the value of a cell says what source text says. Some words of a program are one text with one meaning; of these, reading files
--- gives one alone, here the first, and does not tell it from the second.
+-- When a value of a program says what source text says. A program may have several words for one text and one meaning. Reading gives one of
+-- them, which is the first of two values here; the second, which the program holds, may have any. Of members of `this` and of static
+-- members the text is not looked at: both words are allowed where the text, as `A.f`, is that of one alone. Which member is meant is
+-- the same in either.
 use Rattle.std.specs.Prelude.{◌≡◌, ℕ, Bool, true, false, IsTrue, List, [], ◌∷◌, ◌++◌, Option, Some, None, option_map}
 use Rattle.mol_base.specs.declared.ident.Id.{Id}
 use Rattle.mol_values.specs.declared.iexpr.Argument.{Argument}
@@ -43,7 +45,7 @@ type_text = fold-IType OutsideText type_text_step
 
 -- a field after a text
 abbrev pub with_field : Name → OutsideText → OutsideText
-with_field name of = record { text = option_map (λ (text : Name). text ++ dot ∷ name) of.text; is_in_full = of.is_in_full }
+with_field name before = record { text = option_map (λ (text : Name). text ++ dot ∷ name) before.text; is_in_full = before.is_in_full }
 
 abbrev pub expr_text_step : IExpr-F OutsideText OutsideText → OutsideText
 expr_text_step (IExpr-F.OutsideName name) = in_full name
@@ -110,12 +112,12 @@ mutual
         → Says (exprs.OutsideCallOn name said all_said) (exprs.OutsideCallOn name held all_held)
     in_outside_super_call : {name : Name} {all_said all_held : List IExpr} → SaysAll all_said all_held
         → Says (exprs.OutsideSuperCall name all_said) (exprs.OutsideSuperCall name all_held)
-    in_new_outside : {type other : IType} {all_said all_held : List IExpr} → SaysType type other → SaysAll all_said all_held
-        → Says (exprs.NewOutside type all_said) (exprs.NewOutside other all_held)
-    in_new_array : {type other : IType} {all_said all_held : List IExpr} {pairs : ℕ} → SaysType type other → SaysAll all_said all_held
-        → Says (exprs.NewArray type all_said pairs) (exprs.NewArray other all_held pairs)
-    in_array : {type other : IType} {all_said all_held : List IExpr} → SaysType type other → SaysAll all_said all_held
-        → Says (exprs.ArrayLit type all_said) (exprs.ArrayLit other all_held)
+    in_new_outside : {said_type held_type : IType} {all_said all_held : List IExpr} → SaysType said_type held_type → SaysAll all_said all_held
+        → Says (exprs.NewOutside said_type all_said) (exprs.NewOutside held_type all_held)
+    in_new_array : {said_type held_type : IType} {all_said all_held : List IExpr} {pairs : ℕ} → SaysType said_type held_type → SaysAll all_said all_held
+        → Says (exprs.NewArray said_type all_said pairs) (exprs.NewArray held_type all_held pairs)
+    in_array : {said_type held_type : IType} {all_said all_held : List IExpr} → SaysType said_type held_type → SaysAll all_said all_held
+        → Says (exprs.ArrayLit said_type all_said) (exprs.ArrayLit held_type all_held)
     in_braces : {all_said all_held : List IExpr} → SaysAll all_said all_held → Says (exprs.Braces all_said) (exprs.Braces all_held)
     in_index : {said held next_said next_held : IExpr} → Says said held → Says next_said next_held
         → Says (exprs.Index said next_said) (exprs.Index held next_held)
@@ -125,10 +127,10 @@ mutual
         → Says (exprs.Binary op said next_said) (exprs.Binary op held next_held)
     in_assign : {op : Name} {said held next_said next_held : IExpr} → Says said held → Says next_said next_held
         → Says (exprs.Assign op said next_said) (exprs.Assign op held next_held)
-    in_cast : {type other : IType} {said held : IExpr} → SaysType type other → Says said held
-        → Says (exprs.Cast type said) (exprs.Cast other held)
-    in_instance_of : {type other : IType} {said held : IExpr} → Says said held → SaysType type other
-        → Says (exprs.InstanceOf said type) (exprs.InstanceOf held other)
+    in_cast : {said_type held_type : IType} {said held : IExpr} → SaysType said_type held_type → Says said held
+        → Says (exprs.Cast said_type said) (exprs.Cast held_type held)
+    in_instance_of : {said_type held_type : IType} {said held : IExpr} → Says said held → SaysType said_type held_type
+        → Says (exprs.InstanceOf said said_type) (exprs.InstanceOf held held_type)
 
   pub data SaysAll : List IExpr → List IExpr → Type 0 where
     no_exprs : SaysAll [] []

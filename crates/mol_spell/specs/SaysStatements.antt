@@ -50,15 +50,15 @@ mutual
     let_of : {said held : ILet} → SaysLet said held → SaysStatement (nodes.Let said) (nodes.Let held)
     do_of : {said held : IExpr} → Says said held → SaysStatement (nodes.Do said) (nodes.Do held)
     if_of : {said held : IIf} → SaysIf said held → SaysStatement (nodes.If said) (nodes.If held)
-    while_of : {said held : IExpr} {body other : IBlock} → Says said held → SaysBlock body other
-        → SaysStatement (nodes.While said body) (nodes.While held other)
-    for_of : {said held : IForStart} {test other : Option IExpr} {all_said all_held : List IExpr} {body body' : IBlock}
+    while_of : {said held : IExpr} {said_body held_body : IBlock} → Says said held → SaysBlock said_body held_body
+        → SaysStatement (nodes.While said said_body) (nodes.While held held_body)
+    for_of : {said held : IForStart} {said_test held_test : Option IExpr} {all_said all_held : List IExpr} {said_body held_body : IBlock}
         → SaysStart said held
-        → SaysMaybe test other → SaysAll all_said all_held → SaysBlock body body'
-        → SaysStatement (nodes.For said test all_said body) (nodes.For held other all_held body')
-    each_of : {is_final : Bool} {type other : IType} {name : Name} {said held : IExpr} {body body' : IBlock} → SaysType type other
+        → SaysMaybe said_test held_test → SaysAll all_said all_held → SaysBlock said_body held_body
+        → SaysStatement (nodes.For said said_test all_said said_body) (nodes.For held held_test all_held held_body)
+    each_of : {is_final : Bool} {said_type held_type : IType} {name : Name} {said held : IExpr} {said_body held_body : IBlock} → SaysType said_type held_type
         → Says said held
-        → SaysBlock body body' → SaysStatement (nodes.Each is_final type name said body) (nodes.Each is_final other name held body')
+        → SaysBlock said_body held_body → SaysStatement (nodes.Each is_final said_type name said said_body) (nodes.Each is_final held_type name held held_body)
     return_of : {said held : Option IExpr} → SaysMaybe said held → SaysStatement (nodes.Return said) (nodes.Return held)
     throw_of : {said held : IExpr} → Says said held → SaysStatement (nodes.Throw said) (nodes.Throw held)
     break_of : SaysStatement nodes.Break nodes.Break
@@ -71,8 +71,8 @@ mutual
         → SaysStatement (nodes.SuperOutside all_said) (nodes.SuperOutside all_held)
 
   pub data SaysIf : IIf → IIf → Type 0 where
-    branches : {said held : IExpr} {body other : IBlock} {rest rest' : IElse} → Says said held → SaysBlock body other → SaysElse rest rest'
-        → SaysIf (branch_of said body rest) (branch_of held other rest')
+    branches : {said held : IExpr} {said_body held_body : IBlock} {said_rest held_rest : IElse} → Says said held → SaysBlock said_body held_body → SaysElse said_rest held_rest
+        → SaysIf (branch_of said said_body said_rest) (branch_of held held_body held_rest)
 
   pub data SaysElse : IElse → IElse → Type 0 where
     no_else : SaysElse elses.None elses.None

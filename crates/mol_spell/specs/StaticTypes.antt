@@ -69,7 +69,7 @@ module _ (program : Program) (class : Id) (locals : List (ViewType Id)) where
   expr_step (IExpr-F.Cond test a b) = common (program_view program) a b
   expr_step (IExpr-F.OutsideName name) = outside_value
   expr_step (IExpr-F.OutsideClass full) = outside_value
-  expr_step (IExpr-F.OutsideField name e) = outside_field e
+  expr_step (IExpr-F.OutsideField name e) = outside_field e name
   expr_step (IExpr-F.OutsideCall name args) = outside_value
   expr_step (IExpr-F.OutsideCallOn name e args) = outside_call e name (length args)
   expr_step (IExpr-F.OutsideSuperCall name args) = outside_value
