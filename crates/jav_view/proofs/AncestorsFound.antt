@@ -16,6 +16,9 @@ module _ {C M : Type 0} (view : View C M) where
   way_from-first zero met class = refl
   way_from-first (suc steps) met class = refl
 
+  way-ancestors : (class : C) → way view class ≡ class ∷ ancestors view class
+  way-ancestors class = way_from-first (length view.classes.items) [] class
+
   pub follows-first : {met : List C} {class : C} {classes : List C} → Follows view met class classes
       → (rest : List C) × (classes ≡ class ∷ rest)
   follows-first (Follows.up {way = above_it} extends new more) = (above_it, refl)
@@ -145,13 +148,17 @@ module _ {C M : Type 0} (view : View C M) (ordered : AreOrdered view.classes) wh
   leads-in classes each class top (Leads.step {above = above} extends leads) stands =
       leads-in classes each above top leads (each class above stands extends)
 
-  way-ancestors : (class : C) → way view class ≡ class ∷ ancestors view class
-  way-ancestors class = way_from-first view (length view.classes.items) [] class
+  among-ancestors : (class above : C) → Contains (ancestors view class) above → IsAncestor view class above
+  among-ancestors class above stands = record {
+    ancestors = ancestors view class;
+    way = subst (Way view class) (way-ancestors view class) (way-is view ordered class);
+    met = stands;
+  }
 
   pub ancestors-reached : (class above : C) → Leads view class above → above ≢ class → IsAncestor view class above
   ancestors-reached class above leads differs = by_place (stands_where class above (ancestors view class) on_way) where
     whole : Way view class (class ∷ ancestors view class)
-    whole = subst (Way view class) (way-ancestors class) (way-is view ordered class)
+    whole = subst (Way view class) (way-ancestors view class) (way-is view ordered class)
 
     each : (x up : C) → Contains (class ∷ ancestors view class) x → Extends view x up → Contains (class ∷ ancestors view class) up
     each x up stands extends = by_met (closed whole x up stands extends) where
@@ -171,7 +178,7 @@ module _ {C M : Type 0} (view : View C M) (ordered : AreOrdered view.classes) wh
     there : is_ancestor view class above ≡ true → IsAncestor view class above
     there is = record {
       ancestors = ancestors view class;
-      way = subst (Way view class) (way-ancestors class) (way-is view ordered class);
+      way = subst (Way view class) (way-ancestors view class) (way-is view ordered class);
       met = (is_met-decides view.classes ordered (ancestors view class) above).0 is;
     }
 
@@ -275,5 +282,7 @@ ancestors_known C M = record {
   never_itself = λ view class is. ancestors-never_itself view class is;
   led_to = λ view class above is. ancestors-led_to view class above is;
   reached = λ view class above ordered leads differs. ancestors-reached view ordered class above leads differs;
+  ways_begin = λ view class. way-ancestors view class;
+  listed = λ view class above ordered stands. among-ancestors view ordered class above stands;
   ways_end = λ view class above ordered no_circle is. ways-end view no_circle ordered class above is;
 }

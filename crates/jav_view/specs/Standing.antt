@@ -1,10 +1,10 @@
 -- That what is found stands in the view, and where; and what the ancestors of a class are.
-use Rattle.std.specs.Prelude.{◌≡◌, ◌≢◌, ◌⊎◌, ℕ, suc, ◌<◌, ◌≤◌, List, ◌++◌, length, Some, Contains, slice_get}
+use Rattle.std.specs.Prelude.{◌≡◌, ◌≢◌, ◌⊎◌, ℕ, suc, ◌<◌, ◌≤◌, List, ◌∷◌, ◌++◌, length, Some, Contains, slice_get}
 use Rattle.std.specs.Bool.{Decides}
 use Rattle.jav_view.specs.Ancestors.{HasClass, Extends, IsAncestor, Leads, HasNoCircle}
 use Rattle.jav_view.specs.DottedNames.{Name, Names}
 use Rattle.jav_view.specs.Leftmost.{leftmost_variable, leftmost_class, ReadsLeftmost}
-use Rattle.jav_view.specs.LookUps.{way, is_ancestor}
+use Rattle.jav_view.specs.LookUps.{way, ancestors, is_ancestor}
 use Rattle.jav_view.specs.Members.{IsMethod, IsConstructorOf, IsByDefault, ReadsField, ReadsMethod, ReadsSuperMethod, Constructor, declared_constructor, default_constructor, ReadsConstructor, ReadsSuperConstructor}
 use Rattle.jav_view.specs.OnValues.{StaticType, class_value, member, static_member, ReadsFieldOn, ReadsMethodOn, ReadsStaticField, ReadsStaticMethod}
 use Rattle.jav_view.specs.Types.{Header, OwnStands, class_read, ReadsSimple, ReadsType}
@@ -22,6 +22,10 @@ pub record AncestorsKnown (C M : Type 0) : Type 0 where
   pub never_itself : (view : View C M) (class : C) → ¬ IsAncestor view class class
   pub led_to : (view : View C M) (class above : C) → IsAncestor view class above → Leads view class above
   pub reached : (view : View C M) (class above : C) → AreOrdered view.classes → Leads view class above → above ≢ class
+      → IsAncestor view class above
+  -- the way of a class is the class and then its ancestors
+  pub ways_begin : (view : View C M) (class : C) → way view class ≡ class ∷ ancestors view class
+  pub listed : (view : View C M) (class above : C) → AreOrdered view.classes → Contains (ancestors view class) above
       → IsAncestor view class above
   -- where there is no circle, the way from a class ends with that from each of its ancestors
   pub ways_end : (view : View C M) (class above : C) → AreOrdered view.classes → HasNoCircle view → IsAncestor view class above

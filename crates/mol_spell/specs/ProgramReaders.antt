@@ -1,6 +1,6 @@
 -- Reading in a program: where trees are read that are handed in for a class, a field or a declaration of it, and the faults between a
 -- member that is handed in and those of the program.
-use Rattle.std.specs.Prelude.{ℕ, false, List, [], ◌++◌, map, Option, option_map, if◌then◌else◌, Contains}
+use Rattle.std.specs.Prelude.{false, List, [], ◌++◌, map, Option, option_map, if◌then◌else◌, Contains}
 use Rattle.std.specs.FinMap.{get}
 use Rattle.std.specs.Option.{option_and_then}
 use Rattle.mol_base.specs.declared.ident.Id.{Id}
