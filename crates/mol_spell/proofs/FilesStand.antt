@@ -1,8 +1,7 @@
 -- What stands in files: their declarations as members of them, and what has a number.
-use Rattle.std.proofs.Common.{◌≡◌, ◌⊎◌, inl, inr, ℕ, ◌<◌, Bool, true, false, cond, List, [], ◌∷◌, ◌++◌, map, length, Option, Some, None, option_map, Contains, find, slice_get, flat_map, refl, sym, ◌∙◌, ap, subst}
+use Rattle.std.proofs.Common.{◌≡◌, ◌⊎◌, inl, inr, ℕ, Bool, true, false, cond, List, [], ◌∷◌, ◌++◌, map, length, Option, Some, None, option_map, Contains, slice_get, flat_map, refl, sym, ◌∙◌, ap, subst, arith}
 use Rattle.std.specs.Bool.{Decides}
-use Rattle.std.specs.List.{range_with_len}
-use Rattle.std.specs.Option.{option_and_then, option_map_or}
+use Rattle.std.specs.Option.{option_map_or}
 use Rattle.std.specs.Ordering.{is_eq, is_lt}
 use Rattle.std.proofs.lemmas.List.Elements.{All-contains}
 use Rattle.std.proofs.lemmas.Option.{slice_get-map, slice_get_within}
@@ -14,10 +13,10 @@ use Rattle.jav_view.specs.Views.{ViewDeclaration, Classes, IsOrdered}
 use Rattle.jav_view.proofs.Lists.{stands_first, stands_later, stands_where, stands_nowhere, stands-mapped, find-found, find-none, one_of_key}
 use Rattle.jav_view.proofs.UnitsViewed.{units_viewed}
 use Rattle.jav_view.proofs.Ways.{same_key as keys-decide}
-use Rattle.mol_spell.specs.Files.{File, Files, HasFile, units, files_view, declaration_at, PlacedMember, placed, member_at}
+use Rattle.mol_spell.specs.Files.{File, Files, HasFile, units, files_view, declaration_at, placed, member_at}
 use Rattle.mol_spell.specs.Numbering.{Numbered, numbered_class, numbered_member, numbered_method, numbered_param, same_key, topmost, path_cmp, put_by_path, by_path, below, member_keys, keys_in_order, numbered_in_method, numbered_at_key, in_order}
-use Rattle.mol_spell.proofs.NumbersApart.{key-self, key-is}
-use Rattle.mol_spell.proofs.Stands.{in_front, behind, in_either, from_map, in_each, from_each, from_some, in_some, from_numbered, in_numbered, in_range, from_range, get-below}
+use Rattle.mol_spell.proofs.NumbersApart.{key-self}
+use Rattle.mol_spell.proofs.Stands.{in_front, behind, from_map, in_each, from_each, from_some, in_some, from_numbered, in_numbered, in_range, from_range, get-below}
 
 abbrev Declaration : Type 0
 Declaration = ViewDeclaration ℕ MemberKey
@@ -61,7 +60,7 @@ pub record StandsAt (files : Files) (key : MemberKey) : Type 0 where
   pub member : Member
   pub in_class : slice_get file.unit.class.members key.member ≡ Some member
 
-some-same : {X : Type 0} {x y : X} → Some x ≡ Some y → x ≡ y
+pub some-same : {X : Type 0} {x y : X} → Some x ≡ Some y → x ≡ y
 some-same is = cc
 
 module _ (files : Files) where
@@ -221,37 +220,36 @@ module _ (files : Files) where
       let there : HasFile files of_file.0.0 of_file.0.1
       = from_numbered files of_file.0 (from-by_path (numbered files) of_file.0 of_file.1) in
       let found = get-below of_file.0.1.unit.class.members of_number.0
-      (from_range 0 (length of_file.0.1.unit.class.members) of_number.0 of_number.1) in
+      (from_range (length of_file.0.1.unit.class.members) of_number.0 of_number.1) in
       subst (StandsAt files) of_number.2 (record { file = of_file.0.1; in_files = there; member = found.0; in_class = found.1 })
 
+  abbrev classes_numbered : List Numbered
+  classes_numbered = map (λ (file : ℕ × File). numbered_class file.0) (by_path (numbered files))
+
+  abbrev members_numbered : List Numbered
+  members_numbered = map numbered_member (keys_in_order files)
+
+  abbrev methods_numbered : List Numbered
+  methods_numbered = flat_map (numbered_at_key (files_view files)) (keys_in_order files)
+
   pub member-in_order : (key : MemberKey) → StandsAt files key → Contains (in_order files) (numbered_member key)
-  member-in_order key at = behind (map (λ (file : ℕ × File). numbered_class file.0) (by_path (numbered files)))
-      (map numbered_member (keys_in_order files) ++ flat_map (numbered_at_key (files_view files)) (keys_in_order files)) (numbered_member key)
-      (in_front (map numbered_member (keys_in_order files)) (flat_map (numbered_at_key (files_view files)) (keys_in_order files))
-      (numbered_member key)
+  member-in_order key at = in_front (classes_numbered ++ members_numbered) methods_numbered (numbered_member key)
+      (behind classes_numbered members_numbered (numbered_member key)
       (stands-mapped numbered_member (keys_in_order files) key (key-in_order key at)))
 
   method-first : (declared : Declaration) → topmost (files_view files) declared ≡ declared
       → Contains (numbered_in_method (files_view files) declared) (numbered_method declared.key)
   method-first declared is = by (same_key (topmost (files_view files) declared).key declared.key)
       (ap (λ (d : Declaration). same_key d.key declared.key) is ∙ key-self declared.key) where
-        listed : List Numbered
-        listed = map (numbered_param declared.key) (below declared.arity)
-
-        by : (b : Bool) → b ≡ true → Contains (cond b (numbered_method declared.key ∷ listed) []) (numbered_method declared.key)
-        unfolding listed
-        by true is = stands_first (numbered_method declared.key) listed
+        by : (b : Bool) → b ≡ true → Contains (cond b (numbered_method declared.key ∷ map (numbered_param declared.key) (below declared.arity)) []) (numbered_method declared.key)
+        by true is = stands_first (numbered_method declared.key) (map (numbered_param declared.key) (below declared.arity))
         by false is = absurd cc
 
   -- a topmost declaration has a number as a method
   pub method-in_order : (declared : Declaration) → Contains (files_view files).declarations declared
       → topmost (files_view files) declared ≡ declared → Contains (in_order files) (numbered_method declared.key)
-  method-in_order declared stands is = behind (map (λ (file : ℕ × File). numbered_class file.0) (by_path (numbered files)))
-      (map numbered_member (keys_in_order files) ++ flat_map (numbered_at_key (files_view files)) (keys_in_order files))
-      (numbered_method declared.key)
-      (behind (map numbered_member (keys_in_order files)) (flat_map (numbered_at_key (files_view files)) (keys_in_order files))
-      (numbered_method declared.key)
+  method-in_order declared stands is = behind (classes_numbered ++ members_numbered) methods_numbered (numbered_method declared.key)
       (in_each (numbered_at_key (files_view files)) (keys_in_order files) declared.key (numbered_method declared.key)
       (key-in_order declared.key (declaration-made files declared stands).at)
       (subst (λ (o : Option Declaration). Contains (option_map_or (numbered_in_method (files_view files)) o []) (numbered_method declared.key))
-      (sym (stands-found files declared stands)) (method-first declared is))))
+      (sym (stands-found files declared stands)) (method-first declared is)))

@@ -13,3 +13,6 @@ pub mod ExampleChanges
 pub mod ExampleFaults
 pub mod ExampleProgram
 pub mod ExampleFile
+pub mod Stands
+pub mod FilesStand
+pub mod OneMethod

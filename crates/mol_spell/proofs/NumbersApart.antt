@@ -6,23 +6,27 @@ use Rattle.std.proofs.lemmas.Cmp.{tied_itself}
 use Rattle.std.proofs.lemmas.List.Folds.{find_at}
 use Rattle.mol_base.specs.declared.ident.Id.{Id}
 use Rattle.jav_view.specs.UnitViews.{MemberKey, member_key_cmp}
-use Rattle.jav_view.proofs.UnitsOrdered.{member_key_cmp-IsKeyOrder}
+use Rattle.jav_view.specs.Views.{IsKeyOrder}
+use Rattle.jav_view.proofs.UnitsViewed.{units_viewed}
 use Rattle.mol_spell.specs.Files.{Files}
 use Rattle.mol_spell.specs.Laws.{NumbersApart}
 use Rattle.mol_spell.specs.Numbering.{Numbered, numbered_class, numbered_member, numbered_method, numbered_param, same_key, same_numbered, in_order, id_at}
 
 -- ---- whether two are one
 
+keys-ordered : IsKeyOrder member_key_cmp
+keys-ordered = (units_viewed.ordered []).order
+
 equal : (o : Ordering) → is_eq o ≡ true → o ≡ Equal
 equal Less is = absurd (true≢false (sym is))
 equal Equal is = refl
 equal Greater is = absurd (true≢false (sym is))
 
-key-self : (key : MemberKey) → same_key key key ≡ true
-key-self key = ap is_eq (tied_itself member_key_cmp-IsKeyOrder.total key)
+pub key-self : (key : MemberKey) → same_key key key ≡ true
+key-self key = ap is_eq (tied_itself keys-ordered.total key)
 
-key-is : (first second : MemberKey) → same_key first second ≡ true → first ≡ second
-key-is first second is = member_key_cmp-IsKeyOrder.same first second (equal (member_key_cmp first second) is)
+pub key-is : (first second : MemberKey) → same_key first second ≡ true → first ≡ second
+key-is first second is = keys-ordered.same first second (equal (member_key_cmp first second) is)
 
 both-true : (a b : Bool) → (a && b) ≡ true → (a ≡ true) × (b ≡ true)
 both-true true b is = (refl, is)

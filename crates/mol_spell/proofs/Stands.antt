@@ -1,5 +1,5 @@
 -- What stands in lists that are made of others.
-use Rattle.std.proofs.Common.{◌≡◌, ◌⊎◌, inl, inr, ℕ, zero, suc, ◌+◌, ◌<◌, Bool, List, [], ◌∷◌, ◌++◌, map, reverse, length, Option, Some, None, Contains, flat_map, filter_map, slice_get, refl, sym, ◌∙◌, ap, subst, arith}
+use Rattle.std.proofs.Common.{◌≡◌, ◌⊎◌, inl, inr, ℕ, zero, suc, ◌+◌, ◌<◌, List, [], ◌∷◌, ◌++◌, map, reverse, length, Option, Some, None, Contains, flat_map, filter_map, slice_get, refl, sym, ◌∙◌, ap, subst, arith}
 use Rattle.std.specs.List.{enumerate_from, cons_option, range_with_len}
 use Rattle.std.proofs.lemmas.List.{reverse-append, reverse-reverse}
 use Rattle.jav_view.proofs.Lists.{stands_first, stands_later, stands_where, stands_nowhere}
@@ -129,13 +129,16 @@ module _ {X : Type 0} where
   get-below (y ∷ xs) zero below = (y, refl)
   get-below (y ∷ xs) (suc k) below = get-below xs k (omega (arith, below))
 
-pub from_range : (n count k : ℕ) → Contains (range_with_len n count) k → k < n + count
-from_range n zero k stands = absurd (stands_nowhere k stands)
-from_range n (suc count) k stands = by (stands_where n k (range_with_len (n + 1) count) stands) (from_range (n + 1) count k) where
+range-below : (n count k : ℕ) → Contains (range_with_len n count) k → k < n + count
+range-below n zero k stands = absurd (stands_nowhere k stands)
+range-below n (suc count) k stands = by (stands_where n k (range_with_len (n + 1) count) stands) (range-below (n + 1) count k) where
   by : (n ≡ k) ⊎ Contains (range_with_len (n + 1) count) k → (Contains (range_with_len (n + 1) count) k → k < n + 1 + count)
       → k < n + suc count
   by (inl same) more = omega (arith, same)
   by (inr later) more = omega (arith, more later)
+
+pub from_range : (count k : ℕ) → Contains (range_with_len 0 count) k → k < count
+from_range count k stands = omega (arith, range-below 0 count k stands)
 
 in_range_from : (n count k at : ℕ) → k < count → at ≡ n + k → Contains (range_with_len n count) at
 in_range_from n zero k at below place = absurd (omega (arith, below))

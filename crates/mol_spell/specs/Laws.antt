@@ -5,7 +5,7 @@ use Rattle.mol_spell.specs.FaultKinds.{FaultKind}
 use Rattle.mol_spell.specs.Files.{Files}
 use Rattle.mol_spell.specs.Numbering.{Numbered, in_order, id_at}
 use Rattle.mol_spell.specs.ProgramViews.{program_view}
-use Rattle.mol_spell.specs.ReadAs.{IsPlain, HoldsWhatIsSaid}
+use Rattle.mol_spell.specs.ReadAs.{HasNoFault, HoldsWhatIsSaid, MethodsByName, IsPlain}
 use Rattle.mol_spell.specs.ResolveFaults.{HavePathsApart, IsFirstFault}
 use Rattle.mol_table.specs.Program.{Program}
 use Rattle.mol_table.specs.Rules.{IsProgram}
@@ -18,6 +18,10 @@ pub record ProgramsViewed : Type 0 where
 pub record NumbersApart : Type 0 where
   pub apart : (files : Files) (first second : Numbered) → Contains (in_order files) first → Contains (in_order files) second
       → id_at files first ≡ id_at files second → first ≡ second
+
+-- Where files have no fault, a program that holds what they say has one method for two declarations exactly where these share it.
+pub record MethodsShared : Type 0 where
+  pub by_name : (files : Files) (program : Program) → HasNoFault files → HoldsWhatIsSaid files program → MethodsByName files program
 
 -- Of files with different paths at most one fault is the first.
 pub record FirstFaults : Type 0 where

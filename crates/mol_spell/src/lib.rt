@@ -1,10 +1,10 @@
-//! What sources read as: the program that source files are, with each name in them by identity, and the faults for which they are none.
+//! What sources read as: the program that source files are, with each name in them by identity, or the faults for which they are none.
 //!
 //! The definitions stand in `specs/`, and the contracts of the crates above cite them. The calls here compute nothing: each carries
 //! laws of the definitions.
 #![tactic(auto)]
 
-ghost use Rattle.mol_spell.specs.Laws.{FirstFaults, NumbersApart, PlainForms, ProgramsViewed};
+ghost use Rattle.mol_spell.specs.Laws.{FirstFaults, MethodsShared, NumbersApart, PlainForms, ProgramsViewed};
 
 /// The law of the view of a program: it ascends by its keys, so that the rules on names have exactly one answer over it.
 #[tactic(auto, using(crate::proofs::ProgramsViewed::programs_viewed))]
@@ -16,6 +16,13 @@ pub fn programs_viewed()
 #[tactic(auto, using(crate::proofs::NumbersApart::numbers_apart))]
 pub fn numbers_apart()
     ensures { NumbersApart }
+{}
+
+/// The law of methods: where files have no fault, two declarations have one method exactly where they agree in name and number of
+/// parameters, and a declaration of these stands in or above the classes of both.
+#[tactic(auto, using(crate::proofs::OneMethod::methods_shared))]
+pub fn methods_shared()
+    ensures { MethodsShared }
 {}
 
 /// The law of the first fault: of files with different paths at most one fault is the first.
