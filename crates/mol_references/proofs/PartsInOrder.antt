@@ -1,7 +1,7 @@
 -- The references of the parts of an expression or a statement stand in printed order.
-use Rattle.std.proofs.Common.{◌≡◌, List, [], ◌∷◌, ◌++◌, map, refl, sym, ◌∙◌, ap}
+use Rattle.std.proofs.Common.{◌≡◌, List, [], ◌∷◌, ◌++◌, map, flat_map, refl, sym, ◌∙◌, ap}
 use Rattle.mol_base.specs.declared.ident.Id.{Id}
-use Rattle.mol_values.specs.declared.iblock.IElse.TheFolds.{fold-roll-IStmtNode, fold-roll-IIf, map-IStmtNode}
+use Rattle.mol_values.specs.declared.iblock.IElse.TheFolds.{fold-roll-IBlock, fold-roll-IStmtNode, fold-roll-IIf, map-IStmtNode}
 use Rattle.mol_values.specs.declared.iblock.IElse.TheOpen.{IStmtNode-F}
 use Rattle.mol_values.specs.declared.iblock.IBlock.{IBlock}
 use Rattle.mol_values.specs.declared.iblock.IElse.{IElse}
@@ -65,8 +65,20 @@ expressions_in_order = record {
   member = λ field e. ap expr_references (sym (exprs.rolls-Field field e)) ∙ rolled (IExpr-F.Field field e);
   call = call-references;
   call_on = call_on-references;
+  static_call = λ method arguments.
+      ap expr_references (sym (exprs.rolls-StaticCall method arguments)) ∙ rolled (IExpr-F.StaticCall method arguments)
+      ∙ ap (λ rest. method_target method ∷ rest) (arguments-joined arguments);
+  super_call = λ method arguments.
+      ap expr_references (sym (exprs.rolls-SuperCall method arguments)) ∙ rolled (IExpr-F.SuperCall method arguments)
+      ∙ ap (λ rest. method_target method ∷ rest) (arguments-joined arguments);
   creation = creation-references;
   outside_member = λ name e. ap expr_references (sym (exprs.rolls-OutsideField name e)) ∙ rolled (IExpr-F.OutsideField name e);
+  outside_call = λ name arguments.
+      ap expr_references (sym (exprs.rolls-OutsideCall name arguments)) ∙ rolled (IExpr-F.OutsideCall name arguments)
+      ∙ ap (λ rest. outside_target name ∷ rest) (exprs-joined arguments);
+  outside_super_call = λ name arguments.
+      ap expr_references (sym (exprs.rolls-OutsideSuperCall name arguments)) ∙ rolled (IExpr-F.OutsideSuperCall name arguments)
+      ∙ ap (λ rest. outside_target name ∷ rest) (exprs-joined arguments);
   outside_call_on = λ name e arguments.
       ap expr_references (sym (exprs.rolls-OutsideCallOn name e arguments)) ∙ rolled (IExpr-F.OutsideCallOn name e arguments)
       ∙ ap (λ rest. expr_references e ++ outside_target name ∷ rest) (exprs-joined arguments);
@@ -76,6 +88,10 @@ expressions_in_order = record {
   new_array = λ type sizes pairs.
       ap expr_references (sym (exprs.rolls-NewArray type sizes pairs)) ∙ rolled (IExpr-F.NewArray type sizes pairs)
       ∙ ap (λ rest. type_references type ++ rest) (exprs-joined sizes);
+  array = λ type items.
+      ap expr_references (sym (exprs.rolls-ArrayLit type items)) ∙ rolled (IExpr-F.ArrayLit type items)
+      ∙ ap (λ rest. type_references type ++ rest) (exprs-joined items);
+  braces = λ items. ap expr_references (sym (exprs.rolls-Braces items)) ∙ rolled (IExpr-F.Braces items) ∙ exprs-joined items;
   index = λ e index. ap expr_references (sym (exprs.rolls-Index e index)) ∙ rolled (IExpr-F.Index e index);
   choice = λ test first second. ap expr_references (sym (exprs.rolls-Cond test first second)) ∙ rolled (IExpr-F.Cond test first second);
   operands = λ operator left right.
@@ -95,14 +111,25 @@ rolled_node : (x : IStmtNode-F IElse IStmtNode IBlock IIf IStmt)
 rolled_node x = fold-roll-IStmtNode References References References References References reference.else_step reference.node_step
     reference.block_step reference.if_step reference.statement_step x
 
+statements-joined : (items : List IStmt) → reference.joined (map statement_references items) ≡ flat_map statement_references items
+statements-joined [] = refl
+statements-joined (item ∷ items) = ap (λ rest. statement_references item ++ rest) (statements-joined items)
+
 pub statements_in_order : StatementsInOrder
 statements_in_order = record {
+  statements = λ items tail.
+      fold-roll-IBlock References References References References References reference.else_step reference.node_step
+      reference.block_step reference.if_step reference.statement_step (record { items = items; tail = tail }) ∙ statements-joined items;
   declaration = λ declared. ap node_references (sym (nodes.rolls-Let declared)) ∙ rolled_node (IStmtNode-F.Let declared);
   while = λ test block. ap node_references (sym (nodes.rolls-While test block)) ∙ rolled_node (IStmtNode-F.While test block);
   for = λ start test steps block.
       ap node_references (sym (nodes.rolls-For start test steps block)) ∙ rolled_node (IStmtNode-F.For start test steps block);
   each = λ is_final type name e block.
       ap node_references (sym (nodes.rolls-Each is_final type name e block)) ∙ rolled_node (IStmtNode-F.Each is_final type name e block);
+  super = λ constructor arguments.
+      ap node_references (sym (nodes.rolls-Super constructor arguments)) ∙ rolled_node (IStmtNode-F.Super constructor arguments);
+  outside_super = λ arguments.
+      ap node_references (sym (nodes.rolls-SuperOutside arguments)) ∙ rolled_node (IStmtNode-F.SuperOutside arguments);
   branch = λ test then rest.
       fold-roll-IIf References References References References References reference.else_step reference.node_step
       reference.block_step reference.if_step reference.statement_step (record { test = test; then = then; rest = rest });

@@ -1,6 +1,6 @@
 -- The references of a value, in the order in which they print: each name of a type, a variable, a member or a constructor, by what it
 -- is the name of. A static member is one reference together with the class that it may be printed with, and so is an outside class
--- with its package. Names that are declared, `this`, and `super` before a dot are no references.
+-- with its package. Nothing that is declared is a reference of what declares it; nor are `this` and the `super` of a member.
 use Rattle.std.specs.Prelude.{ℕ, List, [], ◌∷◌, ◌++◌, Option, None, Some, codes}
 use Rattle.std.specs.List.{flat_map}
 use Rattle.mol_base.specs.declared.ident.Id.{Id}
@@ -188,7 +188,7 @@ abbrev pub parent_references : Option IType → References
 parent_references None = []
 parent_references (Some parent) = type_references parent
 
--- What a cell's value prints by other names: an owner and the method of a declaration stand in no source.
+-- The references of the value of a cell. An owner and the method of a declaration stand in no source; the other values name nothing else.
 abbrev pub references : Value → References
 references (values.Super parent) = parent_references parent
 references (values.Result type) = type_references type

@@ -22,16 +22,16 @@ use Rattle.mol_spell.proofs.ReadEquations.{reads-Lit, reads-This, reads-Name, re
 
 -- ---- the class
 
-abbrev base : ℕ → Id
+abbrev pub base : ℕ → Id
 base number = record { tag = []; num = number }
 
-abbrev int : ViewType ℕ
+abbrev pub int : ViewType ℕ
 int = primitive_type (codes "int")
 
-abbrev desk : ViewClass ℕ
+abbrev pub desk : ViewClass ℕ
 desk = record { key = 0; «package» = codes "shop"; name = codes "Desk" }
 
-abbrev view : View ℕ MemberKey
+abbrev pub view : View ℕ MemberKey
 view = record {
   classes = record { cmp = nat_cmp; items = desk ∷ [] };
   member_cmp = member_key_cmp;
@@ -43,7 +43,7 @@ view = record {
 }
 
 -- the fields are `:2`, `:3` and `:4`
-abbrev in_desk : Reader ℕ MemberKey
+abbrev pub in_desk : Reader ℕ MemberKey
 in_desk = record {
   view = view;
   ids = record {
@@ -63,7 +63,7 @@ read = read_expr in_desk no_locals
 
 -- ---- trees
 
-abbrev name : ℕ → String → Expr
+abbrev pub name : ℕ → String → Expr
 name at text = expr_at at (node.Name (codes text))
 
 abbrev dot : Expr → String → Expr

@@ -67,7 +67,7 @@ module _ (files : Files) where
   unit-get : (number : ℕ) (file : File) → HasFile files number file → slice_get (units files) number ≡ Some file.unit
   unit-get number file is = slice_get-map (λ (f : File). f.unit) files number ∙ ap (option_map (λ (f : File). f.unit)) is
 
-  get-unit : (number : ℕ) (unit : Source) → slice_get (units files) number ≡ Some unit → (file : File) × HasFile files number file × (file.unit ≡ unit)
+  pub get-unit : (number : ℕ) (unit : Source) → slice_get (units files) number ≡ Some unit → (file : File) × HasFile files number file × (file.unit ≡ unit)
   get-unit number unit is = by (slice_get files number) refl (sym (slice_get-map (λ (f : File). f.unit) files number) ∙ is) where
     by : (o : Option File) → slice_get files number ≡ o → option_map (λ (f : File). f.unit) o ≡ Some unit
         → (file : File) × HasFile files number file × (file.unit ≡ unit)

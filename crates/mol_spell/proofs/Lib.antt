@@ -16,3 +16,11 @@ pub mod ExampleFile
 pub mod Stands
 pub mod FilesStand
 pub mod OneMethod
+pub mod Whole
+pub mod KnownTypes
+pub mod WholeNames
+pub mod WholeExpressions
+pub mod WholeStatements
+pub mod ValuesFound
+pub mod ExampleOverride
+pub mod ExampleFaultyParts

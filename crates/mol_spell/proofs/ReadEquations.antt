@@ -1,6 +1,6 @@
 -- How expressions, statements and types are read, one by one: each from how its parts are read.
 use Rattle.std.proofs.Common.{◌≡◌, ℕ, List, [], ◌∷◌, map, Option, Some, None, ap, sym, ◌∙◌}
-use Rattle.jav_tree.proofs.ExpressionFolds.{ExprFold, fold-placed, fold-Lit, fold-This, fold-Name, fold-Dot, fold-Call, fold-Index, fold-Paren}
+use Rattle.jav_tree.proofs.ExpressionFolds.{ExprFold, fold-placed, fold-Lit, fold-This, fold-Name, fold-Dot, fold-Call, fold-New, fold-Index, fold-Paren}
 use Rattle.jav_tree.proofs.StatementFolds.{StmtFold, folded_node, folded_stmt, fold-node-Let, fold-node-Return, fold-block, fold-stmt}
 use Rattle.jav_tree.specs.Blocks.{block_of}
 use Rattle.jav_tree.specs.Expressions.{expr_at}
@@ -12,6 +12,7 @@ use Rattle.jav_tree.specs.declared.stmt.Let.{Let}
 use Rattle.jav_tree.specs.declared.stmt.Stmt.{Stmt}
 use Rattle.jav_tree.specs.declared.stmt.StmtNode.{StmtNode}
 use Rattle.jav_tree.specs.declared.stmt.StmtNode.TheVariants as stmt_node
+use Rattle.jav_tree.specs.declared.types.TypeName.{TypeName}
 use Rattle.jav_tree.specs.declared.types.TypeName.TheFolds.{fold-roll-TypeName}
 use Rattle.jav_tree.specs.declared.types.TypeName.TheOpen.{TypeName-F}
 use Rattle.jav_tree.specs.declared.types.TypeName.TheVariants as types
@@ -61,6 +62,11 @@ module _ {C M : Type 0} (reader : Reader C M) where
       fold-placed read at (node.Call (Some e) name args) ∙ ap (λ made. made at) (fold-Call read (Some e) name args)
       ∙ (λ i. at_place at (ExprNode-F.Call (Some (is i)) name (are i)))
 
+  pub reads-New : (at : ℕ) (type : TypeName) (args : List Expr) (parts : List (Reading C)) → map (reading reader) args ≡ parts
+      → reading reader (expr_at at (node.New type args)) ≡ at_place at (ExprNode-F.New type parts)
+  reads-New at type args parts is = fold-placed read at (node.New type args) ∙ ap (λ made. made at) (fold-New read type args)
+      ∙ ap (λ parts. at_place at (ExprNode-F.New type parts)) is
+
   pub reads-Index : (at : ℕ) (e k : Expr) (part index : Reading C) → reading reader e ≡ part → reading reader k ≡ index
       → reading reader (expr_at at (node.Index e k)) ≡ at_place at (ExprNode-F.Index part index)
   reads-Index at e k part index is index-is = fold-placed read at (node.Index e k) ∙ ap (λ made. made at) (fold-Index read e k)
@@ -84,9 +90,13 @@ module _ {C M : Type 0} (reader : Reader C M) where
   pub tree-Prim : (text : Name) → type_tree reader (types.Prim text) ≡ primitive_tree text
   tree-Prim text = ap (type_tree reader) (sym (types.rolls-Prim text)) ∙ fold-roll-TypeName (Option IType) (type_step reader) (TypeName-F.Prim text)
 
+  pub tree-Named : (text : Name) → type_tree reader (types.Named text) ≡ type_step reader (TypeName-F.Named text)
+  tree-Named text = ap (type_tree reader) (sym (types.rolls-Named text))
+      ∙ fold-roll-TypeName (Option IType) (type_step reader) (TypeName-F.Named text)
+
   -- ---- statements
 
-  abbrev statement : StmtFold
+  abbrev pub statement : StmtFold
   statement = record {
     Other = ReadsTo C IElse;
     Node = ℕ → ReadsTo C ReadNode;

@@ -1,6 +1,7 @@
 -- The laws of what sources read as.
-use Rattle.std.specs.Prelude.{◌≡◌, ℕ, Contains}
+use Rattle.std.specs.Prelude.{◌≡◌, ℕ, IsTrue, Some, Contains}
 use Rattle.jav_view.specs.Views.{IsOrdered}
+use Rattle.mol_spell.specs.Expected.{known_of, value_of}
 use Rattle.mol_spell.specs.FaultKinds.{FaultKind}
 use Rattle.mol_spell.specs.Files.{Files}
 use Rattle.mol_spell.specs.Numbering.{Numbered, in_order, id_at}
@@ -9,6 +10,10 @@ use Rattle.mol_spell.specs.ReadAs.{HasNoFault, HoldsWhatIsSaid, MethodsByName, I
 use Rattle.mol_spell.specs.ResolveFaults.{HavePathsApart, IsFirstFault}
 use Rattle.mol_table.specs.Program.{Program}
 use Rattle.mol_table.specs.Rules.{IsProgram}
+use Rattle.mol_values.specs.Slots.{has_slot}
+use Rattle.mol_values.specs.declared.cell.Slot.{Slot}
+use Rattle.mol_values.specs.declared.known.Known.{Known}
+use Rattle.mol_values.specs.declared.value.Value.{Value}
 
 -- The view of a program ascends by its keys, so that the rules on names have exactly one answer over it.
 pub record ProgramsViewed : Type 0 where
@@ -18,6 +23,12 @@ pub record ProgramsViewed : Type 0 where
 pub record NumbersApart : Type 0 where
   pub apart : (files : Files) (first second : Numbered) → Contains (in_order files) first → Contains (in_order files) second
       → id_at files first ≡ id_at files second → first ≡ second
+
+-- What stands in files is known as something; and where they have no fault there is a value for each slot of it.
+pub record ValuesThere : Type 0 where
+  pub known : (files : Files) (item : Numbered) → Contains (in_order files) item → (known : Known) × (known_of files item ≡ Some known)
+  pub values : (files : Files) → HasNoFault files → (item : Numbered) → Contains (in_order files) item → (slot : Slot)
+      → IsTrue (has_slot (known_of files item) slot) → (value : Value) × (value_of files item slot ≡ Some value)
 
 -- Where files have no fault, a program that holds what they say has one method for two declarations exactly where these share it.
 pub record MethodsShared : Type 0 where

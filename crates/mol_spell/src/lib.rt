@@ -4,7 +4,7 @@
 //! laws of the definitions.
 #![tactic(auto)]
 
-ghost use Rattle.mol_spell.specs.Laws.{FirstFaults, MethodsShared, NumbersApart, PlainForms, ProgramsViewed};
+ghost use Rattle.mol_spell.specs.Laws.{FirstFaults, MethodsShared, NumbersApart, PlainForms, ProgramsViewed, ValuesThere};
 
 /// The law of the view of a program: it ascends by its keys, so that the rules on names have exactly one answer over it.
 #[tactic(auto, using(crate::proofs::ProgramsViewed::programs_viewed))]
@@ -16,6 +16,12 @@ pub fn programs_viewed()
 #[tactic(auto, using(crate::proofs::NumbersApart::numbers_apart))]
 pub fn numbers_apart()
     ensures { NumbersApart }
+{}
+
+/// The law of values: files without a fault say what each cell of their classes, members and methods is to hold.
+#[tactic(auto, using(crate::proofs::ValuesFound::values_there))]
+pub fn values_there()
+    ensures { ValuesThere }
 {}
 
 /// The law of methods: where files have no fault, two declarations have one method exactly where they agree in name and number of
