@@ -1,12 +1,14 @@
 -- The ancestors of a class: what their function says, that they are classes of the view, and what going up leads to.
-use Rattle.std.proofs.Common.{◌≡◌, ◌≢◌, ◌⊎◌, inl, inr, ℕ, zero, suc, true, List, [], ◌∷◌, ◌++◌, drop, length, Contains, refl, sym, ◌∙◌, ap, subst}
+use Rattle.std.proofs.Common.{◌≡◌, ◌≢◌, ◌⊎◌, inl, inr, ℕ, zero, suc, Bool, true, false, Option, Some, None, List, [], ◌∷◌, ◌++◌, drop, length, Contains, refl, sym, ◌∙◌, ap, subst, true≢false}
 use Rattle.std.specs.Bool.{Decides}
+use Rattle.std.specs.Option.{option_map_or}
+use Rattle.std.specs.Ordering.{is_eq}
 use Rattle.jav_view.specs.Ancestors.{HasClass, Extends, Follows, Way, IsAncestor, Leads, HasNoCircle}
-use Rattle.jav_view.specs.LookUps.{is_met, way_from, way, ancestors, is_ancestor}
+use Rattle.jav_view.specs.LookUps.{class_above, is_met, way_from, way, ancestors, is_ancestor, is_above, is_in_circle}
 use Rattle.jav_view.specs.Standing.{AncestorsKnown}
 use Rattle.jav_view.specs.Views.{AreOrdered, View}
-use Rattle.jav_view.proofs.Lists.{stands_first, stands_later, stands_where, stands_nowhere}
-use Rattle.jav_view.proofs.Ways.{is_met-decides, one_above, way-is, one_way}
+use Rattle.jav_view.proofs.Lists.{stands_first, stands_later, stands_where, stands_nowhere, list_any-decides}
+use Rattle.jav_view.proofs.Ways.{same_key, is_met-decides, class_above-is, is-class_above, one_above, way-is, one_way}
 
 module _ {C M : Type 0} (view : View C M) where
   -- ---- the parts of a way
@@ -271,9 +273,70 @@ module _ {C M : Type 0} (view : View C M) where
     ways-end ordered class above is =
         let on = goes_on_from is.way (λ before stands. absurd (stands_nowhere before stands)) above
         (stands_later class above is.ancestors is.met) in
-        let anew = follows-anew on.follows on.below [] (λ x stands. absurd (stands_nowhere x stands)) in
-        (on.nearer, one_way view ordered (way-is view ordered class) is.way ∙ on.is
-        ∙ ap (λ classes. on.nearer ++ classes) (one_way view ordered anew (way-is view ordered above)))
+        let anew = follows-anew on.follows on.below [] (λ x stands. absurd (stands_nowhere x stands)) in (
+          on.nearer,
+          one_way view ordered (way-is view ordered class) is.way ∙ on.is
+              ∙ ap (λ classes. on.nearer ++ classes) (one_way view ordered anew (way-is view ordered above)),
+        )
+
+-- ---- circles
+
+module _ {C M : Type 0} (view : View C M) (ordered : AreOrdered view.classes) where
+  is_above-decides : (above class : C) → Decides (is_above view above class) (Extends view class above)
+  is_above-decides above class = by (class_above view class) refl where
+    by : (o : Option C) → class_above view class ≡ o
+        → Decides (option_map_or (λ next. is_eq (view.classes.cmp next above)) o false) (Extends view class above)
+    by None none = (
+      λ is. absurd (true≢false (sym is)),
+      λ extends. absurd (let no : None ≡ Some above = sym none ∙ is-class_above view ordered class above extends in cc),
+    )
+    by (Some next) found = (
+      λ is. subst (Extends view class) ((same_key ordered.order next above).0 is) (class_above-is view ordered class next found),
+      λ extends. (same_key ordered.order next above).1
+          (one_above view ordered class next above (class_above-is view ordered class next found) extends),
+    )
+
+  -- the last step of a way back
+  last_step : (class top : C) → Leads view class top → (before : C) × ((class ≡ before) ⊎ Leads view class before) × Extends view before top
+  last_step class top (Leads.last_step extends) = (class, inl refl, extends)
+  last_step class top (Leads.step {above = above} extends leads) =
+      let rest = last_step above top leads in (rest.0, inr (later rest.0 rest.1), rest.2) where
+        later : (before : C) → (above ≡ before) ⊎ Leads view above before → Leads view class before
+        later before (inl same) = Leads.last_step (subst (Extends view class) same extends)
+        later before (inr on) = Leads.step extends on
+
+  circle-found : (class : C) → Decides (is_in_circle view class) (Leads view class class)
+  circle-found class = (back, there) where
+    any : Decides (is_in_circle view class) ((x : C) × Contains (way view class) x × Extends view x class)
+    any = list_any-decides (λ x. Extends view x class) (is_above view class) (is_above-decides class) (way view class)
+
+    back : is_in_circle view class ≡ true → Leads view class class
+    back is =
+        let found = any.0 is in
+        by found.0 found.2 (stands_where class found.0 (ancestors view class)
+        (subst (λ classes. Contains classes found.0) (way-ancestors view class) found.1)) where
+          by : (x : C) → Extends view x class → (class ≡ x) ⊎ Contains (ancestors view class) x → Leads view class class
+          by x extends (inl same) = Leads.last_step (subst (λ c. Extends view c class) (sym same) extends)
+          by x extends (inr among) = leads_on view class x class
+              (ancestors-led_to view class x (among-ancestors view ordered class x among)) extends
+
+    there : Leads view class class → is_in_circle view class ≡ true
+    there leads =
+        let last = last_step class class leads in
+        any.1 (last.0, subst (λ classes. Contains classes last.0) (sym (way-ancestors view class)) (on last.0 last.1), last.2) where
+          reached : (x : C) → Leads view class x → (b : Bool) → is_eq (view.classes.cmp class x) ≡ b → Contains (class ∷ ancestors view class) x
+          reached x up true same = subst (Contains (class ∷ ancestors view class)) ((same_key ordered.order class x).0 same)
+              (stands_first class (ancestors view class))
+          reached x up false apart =
+              let is = ancestors-reached view ordered class x up
+              (λ same. true≢false (sym ((same_key ordered.order class x).1 (sym same)) ∙ apart)) in
+              let same : class ∷ is.ancestors ≡ class ∷ ancestors view class
+              = sym (one_way view ordered (way-is view ordered class) is.way) ∙ way-ancestors view class in
+              subst (λ classes. Contains classes x) same (stands_later class x is.ancestors is.met)
+
+          on : (x : C) → (class ≡ x) ⊎ Leads view class x → Contains (class ∷ ancestors view class) x
+          on x (inl same) = subst (Contains (class ∷ ancestors view class)) same (stands_first class (ancestors view class))
+          on x (inr up) = reached x up (is_eq (view.classes.cmp class x)) refl
 
 pub ancestors_known : (C M : Type 0) → AncestorsKnown C M
 ancestors_known C M = record {
@@ -282,6 +345,7 @@ ancestors_known C M = record {
   never_itself = λ view class is. ancestors-never_itself view class is;
   led_to = λ view class above is. ancestors-led_to view class above is;
   reached = λ view class above ordered leads differs. ancestors-reached view ordered class above leads differs;
+  circles = λ view class ordered. circle-found view ordered class;
   ways_begin = λ view class. way-ancestors view class;
   listed = λ view class above ordered stands. among-ancestors view ordered class above stands;
   ways_end = λ view class above ordered no_circle is. ways-end view no_circle ordered class above is;

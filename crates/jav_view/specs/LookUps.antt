@@ -2,7 +2,7 @@
 -- that the first that passes has the least key.
 use Rattle.std.specs.Prelude.{ℕ, zero, suc, ◌==◌, Bool, true, false, ◌&&◌, ◌||◌, not, List, [], ◌∷◌, ◌++◌, length, drop, Option, Some, None, option_map, if◌then◌else◌, find, codes}
 use Rattle.std.specs.List.{list_any}
-use Rattle.std.specs.Option.{option_or}
+use Rattle.std.specs.Option.{option_or, option_map_or}
 use Rattle.std.specs.Ordering.{is_eq}
 use Rattle.std.specs.Str.{bytes_eq}
 use Rattle.jav_view.specs.DottedNames.{Name, Names, dot, joined, simple_name}
@@ -110,6 +110,14 @@ ancestors view class = drop 1 (way view class)
 
 abbrev pub is_ancestor : {C M : Type 0} → View C M → C → C → Bool
 is_ancestor view class above = is_met view.classes (ancestors view class) above
+
+-- the superclass of the second is the first
+abbrev pub is_above : {C M : Type 0} → View C M → C → C → Bool
+is_above view above class = option_map_or (λ next. is_eq (view.classes.cmp next above)) (class_above view class) false
+
+-- Going up from a class leads back to it where a class on its way has it above it.
+abbrev pub is_in_circle : {C M : Type 0} → View C M → C → Bool
+is_in_circle view class = list_any (is_above view class) (way view class)
 
 -- ---- members
 

@@ -4,7 +4,7 @@ use Rattle.std.specs.Bool.{Decides}
 use Rattle.jav_view.specs.Ancestors.{HasClass, Extends, IsAncestor, Leads, HasNoCircle}
 use Rattle.jav_view.specs.DottedNames.{Name, Names}
 use Rattle.jav_view.specs.Leftmost.{leftmost_variable, leftmost_class, ReadsLeftmost}
-use Rattle.jav_view.specs.LookUps.{way, ancestors, is_ancestor}
+use Rattle.jav_view.specs.LookUps.{way, ancestors, is_ancestor, is_in_circle}
 use Rattle.jav_view.specs.Members.{IsMethod, IsConstructorOf, IsByDefault, ReadsField, ReadsMethod, ReadsSuperMethod, Constructor, declared_constructor, default_constructor, ReadsConstructor, ReadsSuperConstructor}
 use Rattle.jav_view.specs.OnValues.{StaticType, class_value, member, static_member, ReadsFieldOn, ReadsMethodOn, ReadsStaticField, ReadsStaticMethod}
 use Rattle.jav_view.specs.Types.{Header, OwnStands, class_read, ReadsSimple, ReadsType}
@@ -23,6 +23,7 @@ pub record AncestorsKnown (C M : Type 0) : Type 0 where
   pub led_to : (view : View C M) (class above : C) → IsAncestor view class above → Leads view class above
   pub reached : (view : View C M) (class above : C) → AreOrdered view.classes → Leads view class above → above ≢ class
       → IsAncestor view class above
+  pub circles : (view : View C M) (class : C) → AreOrdered view.classes → Decides (is_in_circle view class) (Leads view class class)
   -- the way of a class is the class and then its ancestors
   pub ways_begin : (view : View C M) (class : C) → way view class ≡ class ∷ ancestors view class
   pub listed : (view : View C M) (class above : C) → AreOrdered view.classes → Contains (ancestors view class) above

@@ -64,7 +64,7 @@ pub some-same : {X : Type 0} {x y : X} → Some x ≡ Some y → x ≡ y
 some-same is = cc
 
 module _ (files : Files) where
-  unit-get : (number : ℕ) (file : File) → HasFile files number file → slice_get (units files) number ≡ Some file.unit
+  pub unit-get : (number : ℕ) (file : File) → HasFile files number file → slice_get (units files) number ≡ Some file.unit
   unit-get number file is = slice_get-map (λ (f : File). f.unit) files number ∙ ap (option_map (λ (f : File). f.unit)) is
 
   pub get-unit : (number : ℕ) (unit : Source) → slice_get (units files) number ≡ Some unit → (file : File) × HasFile files number file × (file.unit ≡ unit)

@@ -24,3 +24,4 @@ pub mod WholeStatements
 pub mod ValuesFound
 pub mod ExampleOverride
 pub mod ExampleFaultyParts
+pub mod FaultsListed

@@ -152,8 +152,7 @@ module _ {C M : Type 0} (view : View C M) (ordered : IsOrdered view) where
     met_first class name arity above below =
         let some = along-some name arity (reverse (way view above.owner)) above below.stands below.is_method
         (in_reverse (way view above.owner) above.owner (on_way above.owner above.owner (inl refl))) in
-        let ends = way-ends class above.owner below.owned in
-        (
+        let ends = way-ends class above.owner below.owned in (
           some.0,
           ap (λ classes. along name arity (reverse classes)) ends.1
               ∙ ap (along name arity) (reverse-append ends.0 (way view above.owner))

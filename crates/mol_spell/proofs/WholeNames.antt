@@ -172,7 +172,7 @@ module _ {C M : Type 0} (reader : Reader C M) (known : ReadsKnown reader) where
     never_front (Some dotted) name follow front none =
         let spells = path-front (suc (length dotted.rest)) (leftmost reader.view (place_of reader locals) dotted.first (dotted.rest ++ (name ∷ follow))) front in
         let same : leftmost reader.view (place_of reader locals) dotted.first ((dotted.rest ++ name ∷ []) ++ follow)
-            ≡ leftmost_class spells.class spells.spelling
+        ≡ leftmost_class spells.class spells.spelling
         = ap (leftmost reader.view (place_of reader locals) dotted.first) (append_assoc dotted.rest (name ∷ []) follow) ∙ spells.is in
         let fewer = path-none C M (suc (length (dotted.rest ++ name ∷ []))) spells.class spells.spelling
         (ap (path_by (suc (length (dotted.rest ++ name ∷ [])))) (sym same) ∙ none) in

@@ -1,5 +1,5 @@
 -- The kinds of faults that keep source files from being a program.
-use Rattle.std.specs.Prelude.{ℕ}
+use Rattle.std.specs.Prelude.{ℕ, List, [], ◌∷◌}
 
 -- Of several faults of one place the first in this order is reported. What each is stands in `ResolveFaults`; the last five are met in
 -- trees.
@@ -35,3 +35,7 @@ rank_of unknown_name = 10
 rank_of unknown_member = 11
 rank_of static_by_instance = 12
 rank_of receiver_type = 13
+
+abbrev pub every_kind : List FaultKind
+every_kind = path_differs ∷ duplicate_class ∷ package_is_class ∷ super_cycle ∷ import_clash ∷ duplicate_member ∷ overload_by_type
+    ∷ result_differs ∷ static_hidden ∷ redeclared ∷ unknown_name ∷ unknown_member ∷ static_by_instance ∷ receiver_type ∷ []

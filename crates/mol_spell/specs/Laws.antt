@@ -1,13 +1,14 @@
 -- The laws of what sources read as.
-use Rattle.std.specs.Prelude.{◌≡◌, ℕ, IsTrue, Some, Contains}
+use Rattle.std.specs.Prelude.{◌≡◌, ◌⊎◌, ◌↔◌, ℕ, IsTrue, Some, Contains}
 use Rattle.jav_view.specs.Views.{IsOrdered}
 use Rattle.mol_spell.specs.Expected.{known_of, value_of}
 use Rattle.mol_spell.specs.FaultKinds.{FaultKind}
-use Rattle.mol_spell.specs.Files.{Files}
+use Rattle.mol_spell.specs.FaultLists.{faults_of}
+use Rattle.mol_spell.specs.Files.{File, Files, HasFile}
 use Rattle.mol_spell.specs.Numbering.{Numbered, in_order, id_at}
 use Rattle.mol_spell.specs.ProgramViews.{program_view}
 use Rattle.mol_spell.specs.ReadAs.{HasNoFault, HoldsWhatIsSaid, MethodsByName, IsPlain}
-use Rattle.mol_spell.specs.ResolveFaults.{HavePathsApart, IsFirstFault}
+use Rattle.mol_spell.specs.ResolveFaults.{Fails, HavePathsApart, IsFirstFault}
 use Rattle.mol_table.specs.Program.{Program}
 use Rattle.mol_table.specs.Rules.{IsProgram}
 use Rattle.mol_values.specs.Slots.{has_slot}
@@ -34,8 +35,13 @@ pub record ValuesThere : Type 0 where
 pub record MethodsShared : Type 0 where
   pub by_name : (files : Files) (program : Program) → HasNoFault files → HoldsWhatIsSaid files program → MethodsByName files program
 
--- Of files with different paths at most one fault is the first.
+-- The lists of faults hold the faults of files. Files have none, or one that is the first; and of files with different paths at most one is.
 pub record FirstFaults : Type 0 where
+  pub listed : (files : Files) (kind : FaultKind) (number at : ℕ)
+      → Fails files kind number at
+      ↔ ((file : File) × (HasFile files number file × Contains (faults_of files (number, file)) (record { kind = kind; at = at })))
+  pub first : (files : Files)
+      → HasNoFault files ⊎ ((kind : FaultKind) × ((number : ℕ) × ((at : ℕ) × IsFirstFault files kind number at)))
   pub unique : (files : Files) → HavePathsApart files → (kind other : FaultKind) (number second at place : ℕ)
       → IsFirstFault files kind number at → IsFirstFault files other second place
       → (kind ≡ other) × (number ≡ second) × (at ≡ place)

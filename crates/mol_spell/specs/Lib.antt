@@ -1,5 +1,6 @@
 pub mod Expected
 pub mod FaultKinds
+pub mod FaultLists
 pub mod Files
 pub mod Laws
 pub mod Locals
