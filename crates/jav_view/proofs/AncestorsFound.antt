@@ -261,12 +261,13 @@ module _ {C M : Type 0} (view : View C M) where
             by_place : (class ≡ x) ⊎ Contains fewer x → Contains (class ∷ met) x
             by_place (inl same) = subst (Contains (class ∷ met)) same (stands_first class met)
             by_place (inr later) = stands_later class x met (among x later)
-    follows-anew (Follows.end {met = met} {class = class} ends) below fewer among = Follows.end (λ above extends. absurd (never above extends)) where
-      never : (above : C) → ¬ Extends view class above
-      never above extends = by_place (stands_where class above met (ends above extends)) where
-        by_place : ¬ ((class ≡ above) ⊎ Contains met above)
-        by_place (inl same) = no_circle class (Leads.last_step (subst (Extends view class) (sym same) extends))
-        by_place (inr before) = no_circle above (leads_on above class above (below above before) extends)
+    follows-anew (Follows.end {met = met} {class = class} ends) below fewer among = Follows.end
+        (λ above extends. absurd (never above extends)) where
+          never : (above : C) → ¬ Extends view class above
+          never above extends = by_place (stands_where class above met (ends above extends)) where
+            by_place : ¬ ((class ≡ above) ⊎ Contains met above)
+            by_place (inl same) = no_circle class (Leads.last_step (subst (Extends view class) (sym same) extends))
+            by_place (inr before) = no_circle above (leads_on above class above (below above before) extends)
 
     pub ways-end : (ordered : AreOrdered view.classes) (class above : C) → IsAncestor view class above
         → (nearer : List C) × (way view class ≡ nearer ++ way view above)
@@ -324,7 +325,8 @@ module _ {C M : Type 0} (view : View C M) (ordered : AreOrdered view.classes) wh
     there leads =
         let last = last_step class class leads in
         any.1 (last.0, subst (λ classes. Contains classes last.0) (sym (way-ancestors view class)) (on last.0 last.1), last.2) where
-          reached : (x : C) → Leads view class x → (b : Bool) → is_eq (view.classes.cmp class x) ≡ b → Contains (class ∷ ancestors view class) x
+          reached : (x : C) → Leads view class x → (b : Bool) → is_eq (view.classes.cmp class x) ≡ b
+              → Contains (class ∷ ancestors view class) x
           reached x up true same = subst (Contains (class ∷ ancestors view class)) ((same_key ordered.order class x).0 same)
               (stands_first class (ancestors view class))
           reached x up false apart =

@@ -128,7 +128,8 @@ module _ {C M : Type 0} (view : View C M) where
     by (inl longer) =
         let whole : take (length rest) rest ≡ take further rest
         = take_all (length rest) rest (omega arith) ∙ sym (take_all further rest (omega (arith, longer))) in
-        absurd (All-contains (λ other. ¬ (full_name other ≡ joined first (take (length rest) rest))) view.classes.items class (fewest.none_fewer (length rest) longer) fewest.here.here
+        absurd (All-contains (λ other. ¬ (full_name other ≡ joined first (take (length rest) rest))) view.classes.items class
+        (fewest.none_fewer (length rest) longer) fewest.here.here
         (fewest.here.holds ∙ ap (λ names. joined first names) (sym whole)))
 
   leftmost_class-counted : (place : Place C) (first : Name) (rest : Names) (class : C) (count : ℕ)

@@ -75,7 +75,8 @@ constructor_tests kind = (by_kind kind, λ same. ap is_constructor same) where
   by_kind static_method is = absurd (true≢false (sym is))
   by_kind constructor is = refl
 
-pub method_tests : {C M : Type 0} (name : Name) (arity : ℕ) (d : ViewDeclaration C M) → Decides (is_method name arity d) (IsMethod name arity d)
+pub method_tests : {C M : Type 0} (name : Name) (arity : ℕ) (d : ViewDeclaration C M)
+    → Decides (is_method name arity d) (IsMethod name arity d)
 method_tests {C} {M} name arity d = (parts, whole) where
   parts : is_method name arity d ≡ true → IsMethod name arity d
   parts is =

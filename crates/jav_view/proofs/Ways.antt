@@ -98,7 +98,8 @@ module _ {X : Type 0} (p q : X → Bool) (stricter : (x : X) → q x ≡ true �
   fewer [] y of-y passes fails = absurd (stands_nowhere y of-y)
   fewer (x ∷ xs) y of-y passes fails =
       by_tests (p x) (q x) refl refl (stands_where x y xs of-y) (λ later. fewer xs y later passes fails) where
-        by_tests : (a b : Bool) → p x ≡ a → q x ≡ b → (x ≡ y) ⊎ Contains xs y → (Contains xs y → length (filter q xs) < length (filter p xs))
+        by_tests : (a b : Bool) → p x ≡ a → q x ≡ b → (x ≡ y) ⊎ Contains xs y
+            → (Contains xs y → length (filter q xs) < length (filter p xs))
             → length (cond b (x ∷ filter q xs) (filter q xs)) < length (cond a (x ∷ filter p xs) (filter p xs))
         by_tests true true is-p is-q (inl same) more = absurd (true≢false (sym is-q ∙ ap q same ∙ fails))
         by_tests true true is-p is-q (inr later) more = omega (arith, more later)

@@ -88,7 +88,7 @@ pub record NamesCut : Type 0 where
   pub parts : (first : Name) (rest : Names) → HasNoDot first → All HasNoDot rest
       → cut (joined first rest) ≡ record { first = first; rest = rest }
 
--- Whether two types are equal, by a test of keys in their order.
+-- Whether two types are equal has a test, where keys are in a total order; and two equal types are one.
 pub record TypesCompared (C : Type 0) : Type 0 where
   pub tested : (cmp : C → C → Ordering) (first second : ViewType C) → IsKeyOrder cmp
       → Decides (same_type cmp first second) (SameType first second)

@@ -55,7 +55,8 @@ lines = line_at in_total 2 (StmtNode-F.Let let_desk) ∷ line_at in_total 16 (St
 desk_local : (block_reading in_total body no_locals).outcome ≡ fine (by_identity.block_of
     (record {
       notes = [];
-      node = nodes.Let (record { is_final = false; ty = types.Int; names = record { name = codes "Desk"; init = Some (exprs.Lit (codes "1")) } ∷ [] });
+      node = nodes.Let
+          (record { is_final = false; ty = types.Int; names = record { name = codes "Desk"; init = Some (exprs.Lit (codes "1")) } ∷ [] });
     } ∷ record {
       notes = [];
       node = nodes.Return (Some (exprs.StaticCall (base 12) (record { param = base 13; value = exprs.Local 0 } ∷ [])));

@@ -61,7 +61,8 @@ math = file "shop" [] "Math" None (method false int "total" [] ∷ [])
 abbrev in_renamed : Reader ℕ MemberKey
 in_renamed = in_file (last_extends (math ∷ desk ∷ till ∷ [])) (shop_of math desk till) 2 till []
 
-abs_of_class : read_expr in_renamed no_locals (expr_at 0 (node.Call (Some (name 0 "Math")) (codes "abs") (one ∷ []))) ≡ refused unknown_member 0
+abs_of_class : read_expr in_renamed no_locals (expr_at 0 (node.Call (Some (name 0 "Math")) (codes "abs") (one ∷ [])))
+    ≡ refused unknown_member 0
 abs_of_class = expr-read in_renamed no_locals (expr_at 0 (node.Call (Some (name 0 "Math")) (codes "abs") (one ∷ []))) _
     (reads-CallOn in_renamed 0 (name 0 "Math") (codes "abs") (one ∷ []) _ _ (reads-Name in_renamed 0 (codes "Math"))
     (one-read in_renamed one _ (reads-Lit in_renamed 9 (codes "1"))))
@@ -78,7 +79,7 @@ abbrev in_moved : Reader ℕ MemberKey
 in_moved = in_file (last_extends (moved_cart ∷ moved_desk ∷ till ∷ [])) (shop_of moved_cart moved_desk till) 0 moved_cart []
 
 abbrev with_desk : Locals ℕ
-with_desk = declare (record { name = codes "Desk"; ty = primitive_type (codes "int") }) no_locals
+with_desk = declare (record { name = codes "Desk"; type = primitive_type (codes "int") }) no_locals
 
 abbrev shop_desk : Expr
 shop_desk = expr_at 0 (node.Dot (name 0 "shop") (codes "Desk"))
@@ -105,7 +106,7 @@ abbrev in_f : List (Parameter ℕ) → Reader ℕ MemberKey
 in_f params = in_file two_of_a_name (shop_of (x_of "a") (x_of "b") user) 2 user params
 
 abbrev parameter_a : List (Parameter ℕ)
-parameter_a = record { name = codes "a"; ty = primitive_type (codes "int"); id = base 10 } ∷ []
+parameter_a = record { name = codes "a"; type = primitive_type (codes "int"); id = base 10 } ∷ []
 
 abbrev x_of_a : Expr
 x_of_a = expr_at 0 (node.Dot (name 0 "a") (codes "X"))

@@ -126,7 +126,8 @@ abbrev a : Expr
 a = name 0 "a"
 
 length_of_array : read (dot a "length") ≡ fine (exprs.OutsideField (codes "length") (exprs.Own (base 4)))
-length_of_array = expr-read in_desk no_locals (dot a "length") _ (reads-Dot in_desk 0 a (codes "length") _ (reads-Name in_desk 0 (codes "a")))
+length_of_array = expr-read in_desk no_locals (dot a "length") _
+    (reads-Dot in_desk 0 a (codes "length") _ (reads-Name in_desk 0 (codes "a")))
 
 -- it is an `int`, which has no members
 of_length : read (dot (dot a "length") "x") ≡ refused receiver_type 0

@@ -123,7 +123,8 @@ two_fields = file_at "shop/Cart.java" (class_with (codes "Cart") None (member.Fi
 
 fields_of_a_name : Fails (two_fields ∷ []) duplicate_member 0 40
 fields_of_a_name = between_members {first = row_of (type_of_file (two_fields ∷ []) (0, two_fields)) 0 (0, member.Field (field_at 20))}
-    {second = row_of (type_of_file (two_fields ∷ []) (0, two_fields)) 0 (1, member.Field (field_at 40))} (0, omega arith, refl) (1, omega arith, refl)
+    {second = row_of (type_of_file (two_fields ∷ []) (0, two_fields)) 0 (1, member.Field (field_at 40))} (0, omega arith, refl)
+    (1, omega arith, refl)
     (by_duplicate (AreDuplicates.fields (record { one_class = refl; ordered = omega arith })
     (record { first_is = refl; second_is = refl; named = refl })))
 
@@ -165,7 +166,11 @@ results_differ =
     let second = method_at 40 false long in
     between_members {first = first_row first second} {second = second_row first second} (0, omega arith, refl) (1, omega arith, refl)
     (by_result (record {
-      related = record { alike = record { first_is = refl; second_is = refl; named = refl }; as_many = refl; placed = inl (in_order first second) };
+      related = record {
+        alike = record { first_is = refl; second_is = refl; named = refl };
+        as_many = refl;
+        placed = inl (in_order first second);
+      };
       differ = int_or_long (only_file first second) (0, with_methods first second);
     }))
 
@@ -195,7 +200,8 @@ abbrev twice_unread : Files
 twice_unread = only_file (of_unread 20) (of_unread 40)
 
 reads-unread : type_of_file twice_unread (0, with_methods (of_unread 20) (of_unread 40)) unread_name ≡ unread_type
-reads-unread = type_in-Named (classes_of (units twice_unread)) (header_of (0, (with_methods (of_unread 20) (of_unread 40)).unit)) (codes "Cart.X")
+reads-unread = type_in-Named (classes_of (units twice_unread)) (header_of (0, (with_methods (of_unread 20) (of_unread 40)).unit))
+    (codes "Cart.X")
 
 same_headers : Fails twice_unread overload_by_type 0 40
 same_headers =
@@ -210,7 +216,8 @@ same_headers =
     (record {
       as_many = refl;
       differ = λ equal. never_same (type_of_file twice_unread (0, with_methods (of_unread 20) (of_unread 40)) unread_name)
-          (subst (λ (type : ViewType ℕ). SameType type (type_of_file twice_unread (0, with_methods (of_unread 20) (of_unread 40)) unread_name))
+          (subst (λ (type : ViewType ℕ). SameType type
+          (type_of_file twice_unread (0, with_methods (of_unread 20) (of_unread 40)) unread_name))
           reads-unread equal.0);
     })))
 

@@ -10,7 +10,8 @@ use Rattle.mol_values.specs.declared.itype.IType.TheFolds.{fold-roll-IType}
 use Rattle.mol_values.specs.declared.itype.IType.TheOpen.{IType-F}
 use Rattle.mol_values.specs.declared.itype.IType.TheVariants as types
 use Rattle.jav_view.specs.DottedNames.{Name}
-use Rattle.jav_view.specs.OnValues.{StaticType, primitive_value, class_value, array_value}
+use Rattle.jav_view.specs.OnValues.{StaticType, primitive_value, outside_value, class_value, array_value}
+use Rattle.jav_view.specs.StaticTypes.{outside_field}
 use Rattle.jav_view.specs.Views.{ViewType, primitive_type, array_type}
 use Rattle.mol_spell.specs.Says.{OutsideText, in_full, of_import, with_field, type_text, type_text_step, expr_text, expr_text_step, argument_text_step, SaysType, text_of_type, Says, one_field, as_own, as_static, on_this, text_of_expr}
 use Rattle.mol_spell.specs.StaticTypes as static
@@ -46,7 +47,8 @@ abbrev util_date : IExpr
 util_date = exprs.OutsideField (codes "Date") (exprs.OutsideName (codes "util"))
 
 text_of_chain : expr_text util_date ≡ in_full (codes "util.Date")
-text_of_chain = text-OutsideField (codes "Date") (exprs.OutsideName (codes "util")) ∙ ap (with_field (codes "Date")) (text-OutsideName (codes "util"))
+text_of_chain = text-OutsideField (codes "Date") (exprs.OutsideName (codes "util"))
+    ∙ ap (with_field (codes "Date")) (text-OutsideName (codes "util"))
 
 chain_or_class : Says util_date (exprs.OutsideClass (codes "util.Date"))
 chain_or_class = text_of_expr (record {
@@ -81,11 +83,13 @@ module _ (program : Program) where
 
   static-This : static_type exprs.This ≡ class_value (base 1)
   static-This = ap static_type (sym exprs.rolls-This)
-      ∙ fold-roll-IExpr _ _ (static.expr_step program (base 1) (int_array ∷ [])) (static.argument_step program (base 1) (int_array ∷ [])) IExpr-F.This
+      ∙ fold-roll-IExpr _ _ (static.expr_step program (base 1) (int_array ∷ []))
+      (static.argument_step program (base 1) (int_array ∷ [])) IExpr-F.This
 
   static-Local : static_type (exprs.Local 0) ≡ array_value (primitive_type (codes "int"))
   static-Local = ap static_type (sym (exprs.rolls-Local 0))
-      ∙ fold-roll-IExpr _ _ (static.expr_step program (base 1) (int_array ∷ [])) (static.argument_step program (base 1) (int_array ∷ [])) (IExpr-F.Local 0)
+      ∙ fold-roll-IExpr _ _ (static.expr_step program (base 1) (int_array ∷ [])) (static.argument_step program (base 1) (int_array ∷ []))
+      (IExpr-F.Local 0)
 
   -- an item of the array is an `int`
   item_of_local : (index : IExpr) → static_type (exprs.Index (exprs.Local 0) index) ≡ primitive_value
@@ -93,3 +97,23 @@ module _ (program : Program) where
       ∙ fold-roll-IExpr _ _ (static.expr_step program (base 1) (int_array ∷ [])) (static.argument_step program (base 1) (int_array ∷ []))
       (IExpr-F.Index (exprs.Local 0) index)
       ∙ ap (λ type. static.expr_step program (base 1) (int_array ∷ []) (IExpr-F.Index type (static_type index))) static-Local
+
+  -- of an array `length` is a number, and another field, which a program alone can name, is outside
+  field_of_local : (name : Name) → static_type (exprs.OutsideField name (exprs.Local 0))
+      ≡ outside_field (array_value (primitive_type (codes "int"))) name
+  field_of_local name = ap static_type (sym (exprs.rolls-OutsideField name (exprs.Local 0)))
+      ∙ fold-roll-IExpr _ _ (static.expr_step program (base 1) (int_array ∷ [])) (static.argument_step program (base 1) (int_array ∷ []))
+      (IExpr-F.OutsideField name (exprs.Local 0))
+      ∙ ap (λ type. static.expr_step program (base 1) (int_array ∷ []) (IExpr-F.OutsideField name type)) static-Local
+
+  length_of_local : static_type (exprs.OutsideField (codes "length") (exprs.Local 0)) ≡ primitive_value
+  length_of_local = field_of_local (codes "length")
+
+  size_of_local : static_type (exprs.OutsideField (codes "size") (exprs.Local 0)) ≡ outside_value
+  size_of_local = field_of_local (codes "size")
+
+  -- a default constructor makes a value of its class
+  new_default : (class : Id) → static_type (exprs.NewDefault class) ≡ class_value class
+  new_default class = ap static_type (sym (exprs.rolls-NewDefault class))
+      ∙ fold-roll-IExpr _ _ (static.expr_step program (base 1) (int_array ∷ [])) (static.argument_step program (base 1) (int_array ∷ []))
+      (IExpr-F.NewDefault class)

@@ -61,7 +61,7 @@ in_pay = record {
   ids = ids_by view files;
   header = header_of (2, till);
   class = 2;
-  params = record { name = codes "cart"; ty = class_type 0; id = base 19 } ∷ [];
+  params = record { name = codes "cart"; type = class_type 0; id = base 19 } ∷ [];
   in_constructor = false;
 }
 
@@ -103,7 +103,7 @@ abs_outside = expr-read in_pay no_locals (expr_at 0 (node.Call (Some (name 0 "Ma
 -- `Cart.tax(Cart)` under a local `Cart`: before the dot `Cart` is the local, an `int`, which has no methods; `shop.Cart.tax(Cart)` is
 -- the static method
 abbrev with_cart : Locals ℕ
-with_cart = declare (record { name = codes "Cart"; ty = primitive_type (codes "int") }) no_locals
+with_cart = declare (record { name = codes "Cart"; type = primitive_type (codes "int") }) no_locals
 
 hidden_class : read_expr in_pay with_cart (expr_at 0 (node.Call (Some (name 0 "Cart")) (codes "tax") (name 9 "Cart" ∷ [])))
     ≡ refused receiver_type 0

@@ -180,7 +180,8 @@ module _ {C M : Type 0} (view : View C M) (ordered : AreOrdered view.classes) (f
       (Decides-and (are_in_order view first second) _ in_order
       (Decides-or (are_alike a_field first second) _ (alike a_field)
       (Decides-and (are_alike a_method first second || are_alike a_constructor first second) (take_the_same view first second)
-      (Decides-or (are_alike a_method first second) (are_alike a_constructor first second) (alike a_method) (alike a_constructor)) the_same)))
+      (Decides-or (are_alike a_method first second) (are_alike a_constructor first second) (alike a_method)
+      (alike a_constructor)) the_same)))
 
   abbrev AreTold : Type 0
   AreTold = (AreRelated view first second × DifferInTypes first second)
@@ -254,8 +255,11 @@ module _ (files : Files) (number : ℕ) (file : File) (stands : HasFile files nu
         other_stands = from_numbered files found.0 found.1;
         same = found.2.1;
       })
-      (λ is. ((is.second, is.other), in_numbered files is.second is.other is.other_stands,
-      (is.apart, ap class_name (some-same (sym stands ∙ is.stands)) ∙ is.same)))
+      (λ is. (
+        (is.second, is.other),
+        in_numbered files is.second is.other is.other_stands,
+        (is.apart, ap class_name (some-same (sym stands ∙ is.stands)) ∙ is.same),
+      ))
       (list_any-decides IsNamesake (is_namesake (number, file))
       (λ other. Decides-and (not (number == other.0)) (bytes_eq (class_name file) (class_name other.1))
       (Decides-not (number == other.0) (eqb-true number other.0, eq-eqb number other.0))
@@ -267,8 +271,13 @@ module _ (files : Files) (number : ℕ) (file : File) (stands : HasFile files nu
   packages : Decides (has_fault files (number, file) package_is_class) (PackageIsClass files number)
   packages = Decides-like _
       (λ found. record { file = file; other = found.0; stands = stands; other_stands = found.1; inside = found.2 })
-      (λ is. (is.other, is.other_stands, subst (λ (f : File).
-      (is.other.unit.«package» ≡ class_name f) ⊎ BeginsWith is.other.unit.«package» (class_name f)) (some-same (sym is.stands ∙ stands)) is.inside))
+      (λ is. (
+        is.other,
+        is.other_stands,
+        subst (λ (f : File).
+            (is.other.unit.«package» ≡ class_name f) ⊎ BeginsWith is.other.unit.«package» (class_name f))
+            (some-same (sym is.stands ∙ stands)) is.inside,
+      ))
       (list_any-decides IsInside (is_inside (class_name file))
       (λ other. Decides-or (bytes_eq other.unit.«package» (class_name file)) (begins_with other.unit.«package» (class_name file))
       (bytes_eq-Decides other.unit.«package» (class_name file)) (begins other.unit.«package» (class_name file))) files)
@@ -289,16 +298,23 @@ module _ (files : Files) (number : ℕ) (file : File) (stands : HasFile files nu
     by (inl same) = inl (sym same)
     by (inr later) = inr later
 
-  known : (other : Name) → (other ≡ class_name file) ⊎ Contains file.unit.imports other → Contains (class_name file ∷ file.unit.imports) other
-  known other (inl same) = subst (Contains (class_name file ∷ file.unit.imports)) (sym same) (stands_first (class_name file) file.unit.imports)
+  known : (other : Name) → (other ≡ class_name file) ⊎ Contains file.unit.imports other
+      → Contains (class_name file ∷ file.unit.imports) other
+  known other (inl same) = subst (Contains (class_name file ∷ file.unit.imports)) (sym same)
+      (stands_first (class_name file) file.unit.imports)
   known other (inr later) = stands_later (class_name file) other file.unit.imports later
 
   from_clash : ImportClash files number → (import : Name) × Contains file.unit.imports import × ClashesSome import
   from_clash is =
-      let same : is.file ≡ file = some-same (sym is.stands ∙ stands) in
-      (is.import, subst (λ (f : File). Contains f.unit.imports is.import) same is.imported,
-      (is.other, known is.other (subst (λ (f : File). (is.other ≡ class_name f) ⊎ Contains f.unit.imports is.other) same is.known),
-      (is.apart, is.same)))
+      let same : is.file ≡ file = some-same (sym is.stands ∙ stands) in (
+        is.import,
+        subst (λ (f : File). Contains f.unit.imports is.import) same is.imported,
+        (
+          is.other,
+          known is.other (subst (λ (f : File). (is.other ≡ class_name f) ⊎ Contains f.unit.imports is.other) same is.known),
+          (is.apart, is.same),
+        ),
+      )
 
   imports : Decides (has_fault files (number, file) import_clash) (ImportClash files number)
   imports = Decides-like _
@@ -343,11 +359,16 @@ module _ (files : Files) where
   -- a fault of its class
   class-there : (kind : FaultKind) (number : ℕ) (file : File) → HasFile files number file → has_fault files (number, file) kind ≡ true
       → FaultsOf kind number 0
-  class-there kind number file stands is = (file, (stands,
+  class-there kind number file stands is = (
+    file,
+    (
+      stands,
       in_front (of_classes (number, file) ++ of_members (number, file)) (tree_faults files (number, file)) (record { kind = kind; at = 0 })
-      (in_front (of_classes (number, file)) (of_members (number, file)) (record { kind = kind; at = 0 })
-      (stands-mapped (λ kind. record { kind = kind; at = 0 }) (filter (has_fault files (number, file)) every_kind) kind
-      (in_filter (has_fault files (number, file)) every_kind kind (kind-stands kind) is)))))
+          (in_front (of_classes (number, file)) (of_members (number, file)) (record { kind = kind; at = 0 })
+          (stands-mapped (λ kind. record { kind = kind; at = 0 }) (filter (has_fault files (number, file)) every_kind) kind
+          (in_filter (has_fault files (number, file)) every_kind kind (kind-stands kind) is))),
+    ),
+  )
 
   -- the file of a class in a circle
   circle-file : (number : ℕ) → Leads (files_view files) number number → (file : File) × HasFile files number file
@@ -390,29 +411,42 @@ module _ (files : Files) where
       (between-there (files_view files) (files-ordered files).classes first second kind is)) in
       let beside : Contains (faults_beside files second) fault
       = in_each (λ (r : Row ℕ). faults_between (files_view files) r second) (rows files) first fault first-in between in
-      subst (λ number. FaultsOf kind number second.at) (sym (owner-is of_file.0 second of_file.2))
-      (of_file.0.1, (from_numbered files of_file.0 of_file.1,
-      in_front (of_classes of_file.0 ++ of_members of_file.0) (tree_faults files of_file.0) fault
-      (behind (of_classes of_file.0) (of_members of_file.0) fault
-      (in_each (faults_beside files) (rows_in files of_file.0) second fault of_file.2 beside))))
+      subst (λ number. FaultsOf kind number second.at) (sym (owner-is of_file.0 second of_file.2)) (
+        of_file.0.1,
+        (
+          from_numbered files of_file.0 of_file.1,
+          in_front (of_classes of_file.0 ++ of_members of_file.0) (tree_faults files of_file.0) fault
+              (behind (of_classes of_file.0) (of_members of_file.0) fault
+              (in_each (faults_beside files) (rows_in files of_file.0) second fault of_file.2 beside)),
+        ),
+      )
 
   to_lists : (kind : FaultKind) (number at : ℕ) → Fails files kind number at → FaultsOf kind number at
-  to_lists kind number at (Fails.by_path is) = class-there path_differs number is.file is.stands ((paths files number is.file is.stands).1 is)
-  to_lists kind number at (Fails.by_class is) = class-there duplicate_class number is.file is.stands ((namesakes files number is.file is.stands).1 is)
-  to_lists kind number at (Fails.by_package is) = class-there package_is_class number is.file is.stands ((packages files number is.file is.stands).1 is)
+  to_lists kind number at (Fails.by_path is) = class-there path_differs number is.file is.stands
+      ((paths files number is.file is.stands).1 is)
+  to_lists kind number at (Fails.by_class is) = class-there duplicate_class number is.file is.stands
+      ((namesakes files number is.file is.stands).1 is)
+  to_lists kind number at (Fails.by_package is) = class-there package_is_class number is.file is.stands
+      ((packages files number is.file is.stands).1 is)
   to_lists kind number at (Fails.by_superclass is) =
       let there = circle-file number is in class-there super_cycle number there.0 there.1 ((circles files number there.0 there.1).1 is)
-  to_lists kind number at (Fails.by_import is) = class-there import_clash number is.file is.stands ((imports files number is.file is.stands).1 is)
+  to_lists kind number at (Fails.by_import is) = class-there import_clash number is.file is.stands
+      ((imports files number is.file is.stands).1 is)
   to_lists kind number at (Fails.between_members {first = first} {second = second} first-in second-in is) =
       member-there kind first second first-in second-in is
-  to_lists kind number at (Fails.in_tree {file = file} stands is) = (file, (stands,
-      behind (of_classes (number, file) ++ of_members (number, file)) (tree_faults files (number, file)) (record { kind = kind; at = at }) is))
+  to_lists kind number at (Fails.in_tree {file = file} stands is) = (
+    file,
+    (
+      stands,
+      behind (of_classes (number, file) ++ of_members (number, file)) (tree_faults files (number, file))
+          (record { kind = kind; at = at }) is,
+    ),
+  )
 
   from_lists : (kind : FaultKind) (number at : ℕ) → FaultsOf kind number at → Fails files kind number at
   from_lists kind number at (file, (stands, listed)) =
       by (in_either (of_classes (number, file) ++ of_members (number, file)) (tree_faults files (number, file))
       (record { kind = kind; at = at }) listed) where
-
         by_class : Contains (of_classes (number, file)) (record { kind = kind; at = at }) → Fails files kind number at
         by_class there =
             let of_kind = from_map (λ kind. record { kind = kind; at = 0 }) (filter (has_fault files (number, file)) every_kind)
@@ -424,7 +458,8 @@ module _ (files : Files) where
         by_member there =
             let of_second = from_each (faults_beside files) (rows_in files (number, file)) (record { kind = kind; at = at }) there in
             let second = of_second.0 in
-            let of_first = from_each (λ (r : Row ℕ). faults_between (files_view files) r second) (rows files) (record { kind = kind; at = at })
+            let of_first = from_each (λ (r : Row ℕ). faults_between (files_view files) r second) (rows files)
+            (record { kind = kind; at = at })
             of_second.2 in
             let of_kind = from_map (λ kind. record { kind = kind; at = second.at })
             (filter (is_between (files_view files) of_first.0 second) every_kind) (record { kind = kind; at = at }) of_first.2 in
@@ -444,7 +479,8 @@ module _ (files : Files) where
 
         by : Contains (of_classes (number, file) ++ of_members (number, file)) (record { kind = kind; at = at })
             ⊎ Contains (tree_faults files (number, file)) (record { kind = kind; at = at }) → Fails files kind number at
-        by (inl front) = by_front (in_either (of_classes (number, file)) (of_members (number, file)) (record { kind = kind; at = at }) front)
+        by (inl front) = by_front (in_either (of_classes (number, file)) (of_members (number, file))
+            (record { kind = kind; at = at }) front)
         by (inr there) = Fails.in_tree stands there
 
   pub listed : (kind : FaultKind) (number at : ℕ) → Fails files kind number at ↔ FaultsOf kind number at

@@ -49,7 +49,8 @@ module _ (files : Files) where
         (has_key declared.key) declarations is) stands refl)
     by (Some other) is =
         let found = found-stands declared.key other is in
-        ap (λ (d : Declaration). Some d) (one_of_key member_key_cmp (λ (d : Declaration). d.key) (files-ordered files).order declarations other declared
+        ap (λ (d : Declaration). Some d) (one_of_key member_key_cmp (λ (d : Declaration). d.key)
+        (files-ordered files).order declarations other declared
         (files-ordered files).declarations found.0 stands found.1)
 
 -- ---- members, by their keys
@@ -67,7 +68,8 @@ module _ (files : Files) where
   pub unit-get : (number : ℕ) (file : File) → HasFile files number file → slice_get (units files) number ≡ Some file.unit
   unit-get number file is = slice_get-map (λ (f : File). f.unit) files number ∙ ap (option_map (λ (f : File). f.unit)) is
 
-  pub get-unit : (number : ℕ) (unit : Source) → slice_get (units files) number ≡ Some unit → (file : File) × HasFile files number file × (file.unit ≡ unit)
+  pub get-unit : (number : ℕ) (unit : Source) → slice_get (units files) number ≡ Some unit → (file : File) × HasFile files number file
+      × (file.unit ≡ unit)
   get-unit number unit is = by (slice_get files number) refl (sym (slice_get-map (λ (f : File). f.unit) files number) ∙ is) where
     by : (o : Option File) → slice_get files number ≡ o → option_map (λ (f : File). f.unit) o ≡ Some unit
         → (file : File) × HasFile files number file × (file.unit ≡ unit)
@@ -95,7 +97,8 @@ module _ (files : Files) where
   pub declaration-made : (declared : Declaration) → Contains (files_view files).declarations declared → IsMade declared
   declaration-made declared stands =
       let of_file = from_each (declarations_of (classes_of (units files))) (numbered (units files)) declared stands in
-      let of_member = from_some (declaration_in (classes_of (units files)) of_file.0) (numbered of_file.0.1.class.members) declared of_file.2 in
+      let of_member = from_some (declaration_in (classes_of (units files)) of_file.0)
+      (numbered of_file.0.1.class.members) declared of_file.2 in
       let key : declared.key ≡ record { unit = of_file.0.0; member = of_member.0.0 }
       = keyed (classes_of (units files)) of_file.0 of_member.0.0 of_member.0.1 declared of_member.2 in
       let file = get-unit of_file.0.0 of_file.0.1 (from_numbered (units files) of_file.0 of_file.1) in
@@ -210,12 +213,14 @@ module _ (files : Files) where
   key-in_order key at = in_each member_keys (by_path (numbered files)) (key.unit, at.file) key
       (in-by_path (numbered files) (key.unit, at.file) (in_numbered files key.unit at.file at.in_files))
       (stands-mapped (λ number. record { unit = key.unit; member = number }) (below (length at.file.unit.class.members)) key.member
-      (in_range (length at.file.unit.class.members) key.member (slice_get_within at.file.unit.class.members key.member at.member at.in_class)))
+      (in_range (length at.file.unit.class.members) key.member
+      (slice_get_within at.file.unit.class.members key.member at.member at.in_class)))
 
   pub from-keys : (key : MemberKey) → Contains (keys_in_order files) key → StandsAt files key
   from-keys key stands =
       let of_file = from_each member_keys (by_path (numbered files)) key stands in
-      let of_number = from_map (λ number. record { unit = of_file.0.0; member = number }) (below (length of_file.0.1.unit.class.members)) key
+      let of_number = from_map (λ number. record { unit = of_file.0.0; member = number })
+      (below (length of_file.0.1.unit.class.members)) key
       of_file.2 in
       let there : HasFile files of_file.0.0 of_file.0.1
       = from_numbered files of_file.0 (from-by_path (numbered files) of_file.0 of_file.1) in
@@ -241,7 +246,9 @@ module _ (files : Files) where
       → Contains (numbered_in_method (files_view files) declared) (numbered_method declared.key)
   method-first declared is = by (same_key (topmost (files_view files) declared).key declared.key)
       (ap (λ (d : Declaration). same_key d.key declared.key) is ∙ key-self declared.key) where
-        by : (b : Bool) → b ≡ true → Contains (cond b (numbered_method declared.key ∷ map (numbered_param declared.key) (below declared.arity)) []) (numbered_method declared.key)
+        by : (b : Bool) → b ≡ true
+            → Contains (cond b (numbered_method declared.key ∷ map (numbered_param declared.key) (below declared.arity)) [])
+            (numbered_method declared.key)
         by true is = stands_first (numbered_method declared.key) (map (numbered_param declared.key) (below declared.arity))
         by false is = absurd cc
 
@@ -251,5 +258,6 @@ module _ (files : Files) where
   method-in_order declared stands is = behind (classes_numbered ++ members_numbered) methods_numbered (numbered_method declared.key)
       (in_each (numbered_at_key (files_view files)) (keys_in_order files) declared.key (numbered_method declared.key)
       (key-in_order declared.key (declaration-made files declared stands).at)
-      (subst (λ (o : Option Declaration). Contains (option_map_or (numbered_in_method (files_view files)) o []) (numbered_method declared.key))
+      (subst (λ (o : Option Declaration). Contains (option_map_or (numbered_in_method (files_view files)) o [])
+      (numbered_method declared.key))
       (sym (stands-found files declared stands)) (method-first declared is)))

@@ -156,7 +156,8 @@ module _ (files : Files) where
   fails-there kind number at file stands fails =
       let found = (listed files kind number at).0 fails in
       let same = one_file number found.0 file found.1.0 stands in
-      in_each in_file (numbered files) (number, file) ((number, file), record { kind = kind; at = at }) (in_numbered files number file stands)
+      in_each in_file (numbered files) (number, file) ((number, file), record { kind = kind; at = at })
+      (in_numbered files number file stands)
       (stands-mapped (λ (fault : TreeFault). ((number, file), fault)) (faults_of files (number, file)) (record { kind = kind; at = at })
       (subst (λ (f : File). Contains (faults_of files (number, f)) (record { kind = kind; at = at })) same found.1.1))
 
@@ -174,14 +175,24 @@ module _ (files : Files) where
         let of_file = from_each in_file (numbered files) first.x first.stands in
         let of_fault = from_map (λ (fault : TreeFault). (of_file.0, fault)) (faults_of files of_file.0) first.x of_file.2 in
         let stands : HasFile files of_file.0.0 of_file.0.1 = from_numbered files of_file.0 of_file.1 in
-        inr (of_fault.0.kind, (of_file.0.0, (of_fault.0.at, record {
-          file = of_file.0.1;
-          stands = stands;
-          holds = (listed files of_fault.0.kind of_file.0.0 of_fault.0.at).1 (of_file.0.1, (stands, of_fault.1));
-          none_before = λ other second place other_file there fails.
-              subst (λ (fault : InFile). fault_cmp (fault_in other_file other place) (key fault) ≢ Less) (sym of_fault.2)
-              (first.none_before ((second, other_file), record { kind = other; at = place }) (fails-there other second place other_file there fails));
-        })))
+        inr (
+          of_fault.0.kind,
+          (
+            of_file.0.0,
+            (
+              of_fault.0.at,
+              record {
+                file = of_file.0.1;
+                stands = stands;
+                holds = (listed files of_fault.0.kind of_file.0.0 of_fault.0.at).1 (of_file.0.1, (stands, of_fault.1));
+                none_before = λ other second place other_file there fails.
+                    subst (λ (fault : InFile). fault_cmp (fault_in other_file other place) (key fault) ≢ Less) (sym of_fault.2)
+                    (first.none_before ((second, other_file), record { kind = other; at = place })
+                    (fails-there other second place other_file there fails));
+              },
+            ),
+          ),
+        )
 
 pub first_faults : FirstFaults
 first_faults = record { listed = listed; first = first_or_none; unique = first_fault }

@@ -59,14 +59,14 @@ module _ {C M : Type 0} (reader : Reader C M) where
 
   -- what a type reads as: it is as it is seen, and known
   pub record IsRead (type : TypeName) (read : ReadType C) : Type 0 where
-    pub seen : read.ty ≡ seen_type reader type
+    pub seen : read.type ≡ seen_type reader type
     pub known : is_unread (seen_type reader type) ≡ false
 
   pub type-whole : (at : ℕ) (type : TypeName) → IsWhole (IsRead type) (read_type reader at type)
   type-whole at type = by (type_tree reader type) refl where
     by : (o : Option IType) → type_tree reader type ≡ o → IsWhole (IsRead type) (type_or_fault reader at o (seen_type reader type))
     by None is = whole-refused (IsRead type) _ at
-    by (Some tree) is = whole-fine (IsRead type) (record { tree = tree; ty = seen_type reader type })
+    by (Some tree) is = whole-fine (IsRead type) (record { tree = tree; type = seen_type reader type })
         (record { seen = refl; known = tree-known type tree is })
 
 -- ---- static types
@@ -150,12 +150,14 @@ module _ {C M : Type 0} (view : View C M) where
   known-apart null_value second known other = other
   known-apart first null_value known other = known
   known-apart (class_value first) (class_value second) known other =
-      known-if (is_ancestor view second first) (class_value first) (if is_ancestor view first second then class_value second else mixed_value)
+      known-if (is_ancestor view second first) (class_value first)
+      (if is_ancestor view first second then class_value second else mixed_value)
       refl (known-if (is_ancestor view first second) (class_value second) mixed_value refl refl)
   known-apart first second known other = refl
 
   pub known-common : (first second : StaticType C) → has_unread first ≡ false → has_unread second ≡ false
       → has_unread (common view first second) ≡ false
   known-common first second known other =
-      known-if (same_value view.classes.cmp first second) first (if are_unread first second then unread_value else common_apart view first second)
+      known-if (same_value view.classes.cmp first second) first
+      (if are_unread first second then unread_value else common_apart view first second)
       known (rw (both-known first second known other) (known-apart first second known other))

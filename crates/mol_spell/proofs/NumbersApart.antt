@@ -69,7 +69,8 @@ number_apart : (files : Files) (first second : Numbered) → Contains (in_order 
     → id_at files first ≡ id_at files second → first ≡ second
 number_apart files first second stands other same =
     let at : position_or_len (same_numbered first) (in_order files) ≡ position_or_len (same_numbered second) (in_order files)
-    = let next : suc (position_or_len (same_numbered first) (in_order files)) ≡ suc (position_or_len (same_numbered second) (in_order files))
+    = let next : suc (position_or_len (same_numbered first) (in_order files)) ≡ suc
+    (position_or_len (same_numbered second) (in_order files))
     = ap (λ (id : Id). id.num) same in omega (arith, next) in
     let found : Some first ≡ Some second = sym (found-self first (in_order files) stands) ∙ find_at (same_numbered first) (in_order files)
     ∙ ap (slice_get (in_order files)) at ∙ sym (find_at (same_numbered second) (in_order files))

@@ -48,7 +48,10 @@ module _ {C M : Type 0} (view : View C M) (ordered : IsOrdered view) where
     owned : (class : C) (d : Declaration) → Decides (is_method name arity d && is_eq (view.classes.cmp d.owner class))
         (IsMethod name arity d × (d.owner ≡ class))
     owned class d = (
-      λ is. let both = and_parts _ _ is in ((method_tests name arity d).0 both.0, (keys-decide ordered.classes.order d.owner class).0 both.1),
+      λ is. let both = and_parts _ _ is in (
+        (method_tests name arity d).0 both.0,
+        (keys-decide ordered.classes.order d.owner class).0 both.1,
+      ),
       λ h. and_from _ _ ((method_tests name arity d).1 h.0) ((keys-decide ordered.classes.order d.owner class).1 h.1),
     )
 
@@ -70,10 +73,12 @@ module _ {C M : Type 0} (view : View C M) (ordered : IsOrdered view) where
     along-some (class ∷ classes) d stands is among =
         by (here class) refl (stands_where class d.owner classes among) (along-some classes d stands is) where
           by : (o : Option Declaration) → here class ≡ o → (class ≡ d.owner) ⊎ Contains classes d.owner
-              → (Contains classes d.owner → (t : Declaration) × (along classes ≡ Some t)) → (t : Declaration) × (option_or o (along classes) ≡ Some t)
+              → (Contains classes d.owner → (t : Declaration) × (along classes ≡ Some t)) → (t : Declaration)
+              × (option_or o (along classes) ≡ Some t)
           by (Some t) found place more = (t, refl)
           by None none (inr later) more = more later
-          by None none (inl same) more = absurd (All-contains (λ (e : Declaration). ¬ (IsMethod name arity e × (e.owner ≡ class))) view.declarations d
+          by None none (inl same) more = absurd
+              (All-contains (λ (e : Declaration). ¬ (IsMethod name arity e × (e.owner ≡ class))) view.declarations d
               (find-none (λ (e : Declaration). IsMethod name arity e × (e.owner ≡ class))
               (λ (e : Declaration). is_method name arity e && is_eq (view.classes.cmp e.owner class)) (owned class) view.declarations none)
               stands (is, sym same))
@@ -223,7 +228,8 @@ module _ (files : Files) (program : Program) (no_fault : HasNoFault files) (hold
       = rw (member-found files d.key made.at, stands-found files d stands) refl in
       let said : value_of files (numbered_member d.key) slots.Method ≡ Some (values.Method ((ids_of files).method_id d))
       = rw (member-found files d.key made.at, stands-found files d stands) refl in
-      let cell = holds (numbered_member d.key) (member-in_order files d.key made.at) slots.Method (ap (λ known. has_slot known slots.Method) known) in
+      let cell = holds (numbered_member d.key) (member-in_order files d.key made.at) slots.Method
+      (ap (λ known. has_slot known slots.Method) known) in
       let text : cell.text ≡ values.Method ((ids_of files).method_id d) = some-same (sym cell.says ∙ said) in
       cell.holds ∙ ap (λ value. Some value) (says-method ((ids_of files).method_id d) cell.text cell.held text cell.agree)
 
@@ -257,7 +263,8 @@ module _ (files : Files) (program : Program) (no_fault : HasNoFault files) (hold
         let id : id_at files (numbered_method (topmost_of first).key) ≡ id_at files (numbered_method (topmost_of second).key)
         = one_method (some-same (sym (held-is first stands-first) ∙ same ∙ held-is second stands-second)) in
         let key : (topmost_of first).key ≡ (topmost_of second).key
-        = one_key (numbers_apart.apart files (numbered_method (topmost_of first).key) (numbered_method (topmost_of second).key) in-first in-second id) in
+        = one_key (numbers_apart.apart files (numbered_method (topmost_of first).key)
+        (numbered_method (topmost_of second).key) in-first in-second id) in
         share (some-same (sym (stands-found files (topmost_of first) below-first.stands)
         ∙ ap (declaration_at (files_view files)) key ∙ stands-found files (topmost_of second) below-second.stands))
 

@@ -43,7 +43,8 @@ module _ (files : Files) where
       → Holds (λ said held. held ≡ said) program (id_at files item) slot (value_of files item slot)
       → value_at program id slot ≡ value_of files item slot
   cell-said program plain id slot item at held =
-      subst (λ here. value_at program here slot ≡ value_of files item slot) at (held.holds ∙ ap (λ value. Some value) held.agree ∙ sym held.says)
+      subst (λ here. value_at program here slot ≡ value_of files item slot) at
+      (held.holds ∙ ap (λ value. Some value) held.agree ∙ sym held.says)
 
   module _ (first second : Program) (ruled : IsProgram first) (other-ruled : IsProgram second) (plain : IsPlain files first)
       (other : IsPlain files second) where

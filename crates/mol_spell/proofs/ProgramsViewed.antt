@@ -13,7 +13,7 @@ use Rattle.mol_values.specs.declared.known.Known.{Known}
 use Rattle.mol_values.specs.declared.known.Known.TheVariants as knowns
 use Rattle.jav_view.specs.Views.{ViewClass, ViewField, ViewDeclaration, IsKeyOrder, IsOrdered}
 use Rattle.mol_spell.specs.Laws.{ProgramsViewed}
-use Rattle.mol_spell.specs.ProgramViews.{class_in, field_of, field_in, declaration_of, declaration_in, program_view}
+use Rattle.mol_spell.specs.ProgramViews.{living_class, field_of, living_field, declaration_of, living_declaration, program_view}
 
 id_cmp-IsKeyOrder : IsKeyOrder id_cmp
 id_cmp-IsKeyOrder = record { total = id_cmp-total; same = id_cmp-IsAntisymmetric }
@@ -34,7 +34,8 @@ module _ {X Y : Type 0} (made : Id × X → Option Y) (key : Y → Id)
   above id [] h = tt
   above id (e ∷ es) h =
       let parts = split (is_lt (id_cmp id e.0)) (below_all id_cmp id es) h in by_made (made e) refl parts.0 (above id es parts.1) where
-        by_made : (o : Option Y) → made e ≡ o → T (is_lt (id_cmp id e.0)) → AllByRecursion (λ y. id_cmp id (key y) ≡ Less) (filter_map made es)
+        by_made : (o : Option Y) → made e ≡ o → T (is_lt (id_cmp id e.0))
+            → AllByRecursion (λ y. id_cmp id (key y) ≡ Less) (filter_map made es)
             → AllByRecursion (λ y. id_cmp id (key y) ≡ Less) (cons_option o (filter_map made es))
         by_made None is less rest = rest
         by_made (Some y) is less rest = (ap (id_cmp id) (keyed e y is) ∙ is-less (id_cmp id e.0) less, rest)
@@ -47,8 +48,11 @@ module _ {X Y : Type 0} (made : Id × X → Option Y) (key : Y → Id)
         by_made : (o : Option Y) → made e ≡ o → T (below_all id_cmp e.0 es) → IsStrictlySortedBy (on key id_cmp) (filter_map made es)
             → IsStrictlySortedBy (on key id_cmp) (cons_option o (filter_map made es))
         by_made None is below up = up
-        by_made (Some y) is below up =
-            (subst (λ id. AllByRecursion (λ z. id_cmp id (key z) ≡ Less) (filter_map made es)) (sym (keyed e y is)) (above e.0 es below), up)
+        by_made (Some y) is below up = (
+          subst (λ id. AllByRecursion (λ z. id_cmp id (key z) ≡ Less) (filter_map made es)) (sym (keyed e y is))
+              (above e.0 es below),
+          up,
+        )
 
   pub made-ascend : (map : FinMap id_cmp X) → IsStrictlySortedBy (on key id_cmp) (filter_map made (entries map))
   made-ascend map = ascending (entries map) (entries_sorted map)
@@ -68,7 +72,7 @@ mapped-keyed key id make keyed None y is = absurd cc
 mapped-keyed key id make keyed (Some owner) y is = made-keyed key (make owner) y is ∙ keyed owner
 
 module _ (program : Program) where
-  class-keyed : (entry : Id × Known) (class : ViewClass Id) → class_in program entry ≡ Some class → class.key ≡ entry.0
+  class-keyed : (entry : Id × Known) (class : ViewClass Id) → living_class program entry ≡ Some class → class.key ≡ entry.0
   class-keyed (id, knowns.Class) class is =
       tested-keyed (λ (c : ViewClass Id). c.key) id (living_at program id) _ class (λ c. made-keyed (λ (c : ViewClass Id). c.key) _ c) is
   class-keyed (id, knowns.Method kind) class is = absurd cc
@@ -76,7 +80,7 @@ module _ (program : Program) where
   class-keyed (id, knowns.Field) class is = absurd cc
   class-keyed (id, knowns.Param method) class is = absurd cc
 
-  field-keyed : (entry : Id × Known) (field : ViewField Id Id) → field_in program entry ≡ Some field → field.key ≡ entry.0
+  field-keyed : (entry : Id × Known) (field : ViewField Id Id) → living_field program entry ≡ Some field → field.key ≡ entry.0
   field-keyed (id, knowns.Field) field is =
       tested-keyed (λ (f : ViewField Id Id). f.key) id (living_at program id) (option_map (field_of program id) (owner_at program id)) field
       (mapped-keyed (λ (f : ViewField Id Id). f.key) id (field_of program id) (λ owner. refl) (owner_at program id)) is
@@ -85,7 +89,7 @@ module _ (program : Program) where
   field-keyed (id, knowns.Decl method) field is = absurd cc
   field-keyed (id, knowns.Param method) field is = absurd cc
 
-  declaration-keyed : (entry : Id × Known) (declared : ViewDeclaration Id Id) → declaration_in program entry ≡ Some declared
+  declaration-keyed : (entry : Id × Known) (declared : ViewDeclaration Id Id) → living_declaration program entry ≡ Some declared
       → declared.key ≡ entry.0
   declaration-keyed (id, knowns.Decl method) declared is =
       tested-keyed (λ (d : ViewDeclaration Id Id). d.key) id (living_at program id)
@@ -100,11 +104,11 @@ ordered : (program : Program) → IsOrdered (program_view program)
 ordered program = record {
   classes = record {
     order = id_cmp-IsKeyOrder;
-    ascending = made-ascend (class_in program) (λ (c : ViewClass Id). c.key) (class-keyed program) program.known;
+    ascending = made-ascend (living_class program) (λ (c : ViewClass Id). c.key) (class-keyed program) program.known;
   };
   order = id_cmp-IsKeyOrder;
-  fields = made-ascend (field_in program) (λ (f : ViewField Id Id). f.key) (field-keyed program) program.known;
-  declarations = made-ascend (declaration_in program) (λ (d : ViewDeclaration Id Id). d.key) (declaration-keyed program) program.known;
+  fields = made-ascend (living_field program) (λ (f : ViewField Id Id). f.key) (field-keyed program) program.known;
+  declarations = made-ascend (living_declaration program) (λ (d : ViewDeclaration Id Id). d.key) (declaration-keyed program) program.known;
 }
 
 pub programs_viewed : ProgramsViewed

@@ -88,7 +88,8 @@ module _ {C M : Type 0} (reader : Reader C M) where
   -- ---- types
 
   pub tree-Prim : (text : Name) → type_tree reader (types.Prim text) ≡ primitive_tree text
-  tree-Prim text = ap (type_tree reader) (sym (types.rolls-Prim text)) ∙ fold-roll-TypeName (Option IType) (type_step reader) (TypeName-F.Prim text)
+  tree-Prim text = ap (type_tree reader) (sym (types.rolls-Prim text))
+      ∙ fold-roll-TypeName (Option IType) (type_step reader) (TypeName-F.Prim text)
 
   pub tree-Named : (text : Name) → type_tree reader (types.Named text) ≡ type_step reader (TypeName-F.Named text)
   tree-Named text = ap (type_tree reader) (sym (types.rolls-Named text))

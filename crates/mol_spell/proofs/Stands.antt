@@ -31,7 +31,8 @@ module _ {X : Type 0} where
   in_reverse [] x stands = absurd (stands_nowhere x stands)
   in_reverse (z ∷ xs) x stands = by (stands_where z x xs stands) (in_reverse xs x) where
     by : (z ≡ x) ⊎ Contains xs x → (Contains xs x → Contains (reverse xs) x) → Contains (reverse (z ∷ xs)) x
-    by (inl same) more = subst (λ ys. Contains ys x) (sym (reverse-append (z ∷ []) xs)) (behind (reverse xs) (z ∷ []) x (0, omega arith, same))
+    by (inl same) more = subst (λ ys. Contains ys x) (sym (reverse-append (z ∷ []) xs))
+        (behind (reverse xs) (z ∷ []) x (0, omega arith, same))
     by (inr later) more = subst (λ ys. Contains ys x) (sym (reverse-append (z ∷ []) xs)) (in_front (reverse xs) (z ∷ []) x (more later))
 
   pub from_reverse : (xs : List X) (x : X) → Contains (reverse xs) x → Contains xs x
@@ -58,7 +59,8 @@ module _ {X Y : Type 0} where
   from_each make [] y stands = absurd (stands_nowhere y stands)
   from_each make (z ∷ xs) y stands = by (in_either (make z) (flat_map make xs) y stands) (from_each make xs y) where
     by : Contains (make z) y ⊎ Contains (flat_map make xs) y
-        → (Contains (flat_map make xs) y → (x : X) × Contains xs x × Contains (make x) y) → (x : X) × Contains (z ∷ xs) x × Contains (make x) y
+        → (Contains (flat_map make xs) y → (x : X) × Contains xs x × Contains (make x) y) → (x : X) × Contains (z ∷ xs) x
+        × Contains (make x) y
     by (inl here) more = (z, stands_first z xs, here)
     by (inr there) more = let found = more there in (found.0, stands_later z found.0 xs found.1, found.2)
 
@@ -67,12 +69,14 @@ module _ {X Y : Type 0} where
   from_some make [] y stands = absurd (stands_nowhere y stands)
   from_some make (z ∷ xs) y stands = by (make z) refl stands (from_some make xs y) where
     by_place : (w : Y) → make z ≡ Some w → (w ≡ y) ⊎ Contains (filter_map make xs) y
-        → (Contains (filter_map make xs) y → (x : X) × Contains xs x × (make x ≡ Some y)) → (x : X) × Contains (z ∷ xs) x × (make x ≡ Some y)
+        → (Contains (filter_map make xs) y → (x : X) × Contains xs x × (make x ≡ Some y)) → (x : X) × Contains (z ∷ xs) x
+        × (make x ≡ Some y)
     by_place w is (inl same) more = (z, stands_first z xs, is ∙ ap (λ v. Some v) same)
     by_place w is (inr later) more = let found = more later in (found.0, stands_later z found.0 xs found.1, found.2)
 
     by : (o : Option Y) → make z ≡ o → Contains (cons_option o (filter_map make xs)) y
-        → (Contains (filter_map make xs) y → (x : X) × Contains xs x × (make x ≡ Some y)) → (x : X) × Contains (z ∷ xs) x × (make x ≡ Some y)
+        → (Contains (filter_map make xs) y → (x : X) × Contains xs x × (make x ≡ Some y)) → (x : X) × Contains (z ∷ xs) x
+        × (make x ≡ Some y)
     by None is here more = let found = more here in (found.0, stands_later z found.0 xs found.1, found.2)
     by (Some w) is here more = by_place w is (stands_where w y (filter_map make xs) here) more
 

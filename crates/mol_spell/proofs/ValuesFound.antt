@@ -48,10 +48,11 @@ use Rattle.mol_spell.proofs.WholeStatements.{whole-read_initial, whole-read_body
 
 each-none : {X Y : Type 0} (make : X → List Y) (xs : List X) → flat_map make xs ≡ [] → (x : X) → Contains xs x → make x ≡ []
 each-none make [] none x stands = absurd (stands_nowhere x stands)
-each-none make (z ∷ xs) none x stands = by (stands_where z x xs stands) (each-none make xs (none-last (make z) (flat_map make xs) none) x) where
-  by : (z ≡ x) ⊎ Contains xs x → (Contains xs x → make x ≡ []) → make x ≡ []
-  by (inl same) more = ap make (sym same) ∙ none-first (make z) (flat_map make xs) none
-  by (inr later) more = more later
+each-none make (z ∷ xs) none x stands = by (stands_where z x xs stands)
+    (each-none make xs (none-last (make z) (flat_map make xs) none) x) where
+      by : (z ≡ x) ⊎ Contains xs x → (Contains xs x → make x ≡ []) → make x ≡ []
+      by (inl same) more = ap make (sym same) ∙ none-first (make z) (flat_map make xs) none
+      by (inr later) more = more later
 
 all-none : {X A : Type 0} (make : X → Outcome A) (xs : List X) → (all (map make xs)).faults ≡ [] → (x : X) → Contains xs x
     → (make x).faults ≡ []
@@ -110,11 +111,13 @@ module _ (files : Files) where
       subst (Stands files) of_key.2 (Stands.a_member (from-keys files of_key.0 of_key.1))
 
   listed-stands : (declared : Declaration) → declaration_at (files_view files) declared.key ≡ Some declared → (b : Bool) (item : Numbered)
-      → Contains (cond b (numbered_method declared.key ∷ map (numbered_param declared.key) (below declared.arity)) []) item → Stands files item
+      → Contains (cond b (numbered_method declared.key ∷ map (numbered_param declared.key) (below declared.arity)) []) item
+      → Stands files item
   listed-stands declared found false item stands = absurd (stands_nowhere item stands)
   listed-stands declared found true item stands =
       by (stands_where (numbered_method declared.key) item (map (numbered_param declared.key) (below declared.arity)) stands) where
-        by : (numbered_method declared.key ≡ item) ⊎ Contains (map (numbered_param declared.key) (below declared.arity)) item → Stands files item
+        by : (numbered_method declared.key ≡ item) ⊎ Contains (map (numbered_param declared.key) (below declared.arity)) item
+            → Stands files item
         by (inl same) = subst (Stands files) same (Stands.a_method found)
         by (inr later) =
             let of_place = from_map (numbered_param declared.key) (below declared.arity) item later in
@@ -160,7 +163,8 @@ module _ (files : Files) where
       by : (faults : List TreeFault) → tree_faults files (number, file) ≡ faults → faults ≡ []
       by [] none = refl
       by (fault ∷ faults) some =
-          absurd (no_fault fault.kind number fault.at (in_tree is (subst (λ list. Contains list fault) (sym some) (stands_first fault faults))))
+          absurd (no_fault fault.kind number fault.at
+          (in_tree is (subst (λ list. Contains list fault) (sym some) (stands_first fault faults))))
 
     -- a member in its place
     abbrev at_key : (key : MemberKey) → StandsAt files key → PlacedMember
@@ -178,7 +182,8 @@ module _ (files : Files) where
 
     module _ (reader : Reader ℕ MemberKey) where
       field-type : (f : Field) → faults_in reader (member.Field f) ≡ [] → is_unread (seen_type reader f.ty) ≡ false
-      field-type f none = (type-whole reader f.at f.ty (none-first (read_type reader f.at f.ty).faults (read_initial reader f.init).faults none)).2.known
+      field-type f none =
+          (type-whole reader f.at f.ty (none-first (read_type reader f.at f.ty).faults (read_initial reader f.init).faults none)).2.known
 
       module _ (m : Method) (none : faults_in reader (member.Method m) ≡ []) where
         abbrev result_faults : List TreeFault
@@ -215,7 +220,8 @@ module _ (files : Files) where
             (none-first ((read_params reader c.at c.params).faults ++ repeated_faults c.at c.params) (read_body reader c.block).faults none)
 
         no_body_fault : (read_body reader c.block).faults ≡ []
-        no_body_fault = none-last ((read_params reader c.at c.params).faults ++ repeated_faults c.at c.params) (read_body reader c.block).faults none
+        no_body_fault = none-last ((read_params reader c.at c.params).faults ++ repeated_faults c.at c.params)
+            (read_body reader c.block).faults none
 
       no_types_fault : (m : Member) → faults_in reader m ≡ [] → (read_params reader (place_of_member m) (params_of m)).faults ≡ []
       no_types_fault (member.Field f) none = refl
@@ -251,7 +257,8 @@ module _ (files : Files) where
         ∙ from_numbered of_unit.0.1.class.members of_member.0 of_member.1 ∙ ap (λ m. Some m) made.1 in
         let at : StandsAt files (record { unit = of_unit.0.0; member = of_member.0.0 })
         = record { file = file.0; in_files = file.1; member = member.Field made.0; in_class = in_class } in
-        ap is_unread (made.2 ∙ ap (λ (unit : Source). type_in (classes_of (units files)) (header_of (of_unit.0.0, unit)) made.0.ty) (sym file.2))
+        ap is_unread (made.2 ∙ ap (λ (unit : Source). type_in (classes_of (units files)) (header_of (of_unit.0.0, unit)) made.0.ty)
+        (sym file.2))
         ∙ field-type (member_reader files (at_key (record { unit = of_unit.0.0; member = of_member.0.0 }) at)) made.0
         (no_member_fault (record { unit = of_unit.0.0; member = of_member.0.0 }) at)
 
@@ -270,7 +277,8 @@ module _ (files : Files) where
     results-known : (declared : Declaration) → Contains (files_view files).declarations declared → is_unread declared.result ≡ false
     results-known declared stands =
         let made = declaration-made files declared stands in
-        declared-type (classes_of (units files)) (declared.key.unit, made.at.file.unit) declared.key.member made.at.member declared made.made
+        declared-type (classes_of (units files))
+        (declared.key.unit, made.at.file.unit) declared.key.member made.at.member declared made.made
         (λ m is. result-type (member_reader files (at_key declared.key made.at)) m
         (ap (faults_in (member_reader files (at_key declared.key made.at))) (sym is) ∙ no_member_fault declared.key made.at))
 
@@ -281,11 +289,11 @@ module _ (files : Files) where
       results = results-known;
       params = params-known;
     } where
-      params-known : (param : Parameter ℕ) → Contains (member_reader files (at_key key at)).params param → is_unread param.ty ≡ false
+      params-known : (param : Parameter ℕ) → Contains (member_reader files (at_key key at)).params param → is_unread param.type ≡ false
       params-known param stands =
           let of_pair = from_map (parameter_of (file_reader files (key.unit, at.file)))
           (zip (declared_ids files (at_key key at).declared) (params_of at.member)) param stands in
-          ap (λ (p : Parameter ℕ). is_unread p.ty) (sym of_pair.2)
+          ap (λ (p : Parameter ℕ). is_unread p.type) (sym of_pair.2)
           ∙ param-type (member_reader files (at_key key at)) at.member (no_member_fault key at) of_pair.0.1
           (from_zip (declared_ids files (at_key key at).declared) (params_of at.member) of_pair.0 of_pair.1)
 
@@ -327,7 +335,8 @@ module _ (files : Files) where
     value-there : (reader : Reader ℕ MemberKey) → ReadsKnown reader → (f : Field) → faults_in reader (member.Field f) ≡ []
         → HasValue (value_cell reader (member.Field f))
     value-there reader known f none =
-        let read = whole-both (IsRead reader f.ty) Any (read_type reader f.at f.ty) (read_initial reader f.init) (type-whole reader f.at f.ty)
+        let read = whole-both (IsRead reader f.ty) Any (read_type reader f.at f.ty) (read_initial reader f.init)
+        (type-whole reader f.at f.ty)
         (whole-read_initial reader known f.init) none in
         made (λ (parts : ReadType ℕ × Option IExpr). values.Value parts.0.tree parts.1) (read_field reader f).value read.0 read.1
 
@@ -473,7 +482,8 @@ module _ (files : Files) where
         let at = subst (StandsAt files) same (declaration-made files declared (found-stands files key declared found).0).at in
         subst HasValue (ap (option_and_then (cell_of_method files slot)) (sym (member-found files key at)))
         (method-there key at declared found (kind_of declared.kind) slot
-        (ap (λ (o : Option Declaration). has_slot (option_map (λ (d : Declaration). knowns.Method (kind_of d.kind)) o) slot) (sym found) ∙ has))
+        (ap (λ (o : Option Declaration). has_slot (option_map (λ (d : Declaration). knowns.Method (kind_of d.kind)) o) slot) (sym found)
+        ∙ has))
     there item Stands.a_param slot has = absurd (true≢false (sym has))
 
 pub values_there : ValuesThere

@@ -65,8 +65,10 @@ module _ {C M : Type 0} (reader : Reader C M) (known : ReadsKnown reader) where
     whole-values [] = whole-fine Any [] tt
     whole-values (e ∷ es) = whole-mapped (λ (pair : IExpr × List IExpr). Any pair.0 × Any pair.1) Any put_first
         (both (mapped (λ (value : Meant C). value.tree) (alone reader locals (reading reader e.0))) (values_of reader locals (parts es)))
-        (whole-both Any Any (mapped (λ (value : Meant C). value.tree) (alone reader locals (reading reader e.0))) (values_of reader locals (parts es))
-        (whole-mapped (IsKnown reader known) Any (λ (value : Meant C). value.tree) (alone reader locals (reading reader e.0)) (whole-alone e)
+        (whole-both Any Any (mapped (λ (value : Meant C). value.tree) (alone reader locals (reading reader e.0)))
+        (values_of reader locals (parts es))
+        (whole-mapped (IsKnown reader known) Any (λ (value : Meant C). value.tree) (alone reader locals (reading reader e.0))
+        (whole-alone e)
         (λ value is. tt)) (whole-values es)) (λ pair is. tt)
 
   -- ---- names with dots
@@ -122,12 +124,15 @@ module _ {C M : Type 0} (reader : Reader C M) (known : ReadsKnown reader) where
   module _ (e : With) (name : Name) (args : List With) (at : ℕ) where
     call-on : (locals : Locals C) → KnownLocals locals → (p : ClassPath C) → path_of reader locals (reading reader e.0).names [] ≡ p
         → IsWhole (IsKnown reader known)
-        (call_meant reader at name (length (parts args)) ((reading reader e.0).means locals (Some [])) (values_of reader locals (parts args)) p)
+        (call_meant reader at name (length (parts args)) ((reading reader e.0).means locals (Some []))
+        (values_of reader locals (parts args)) p)
     call-on locals all (whole_path class) is = whole-over Any (IsKnown reader known) (values_of reader locals (parts args))
-        (λ values. call_through reader at values (method_through reader.view class name (length (parts args)))) (whole-values locals all args)
+        (λ values. call_through reader at values (method_through reader.view class name (length (parts args))))
+        (whole-values locals all args)
         (λ values is. whole-call_through reader known at name values class (length (parts args)))
     call-on locals all front_path is = absurd (never_front_of_call reader known locals all (reading reader e.0).names is)
-    call-on locals all no_path is = whole-over (λ (pair : Meant C × List IExpr). IsKnown reader known pair.0 × Any pair.1) (IsKnown reader known)
+    call-on locals all no_path is = whole-over (λ (pair : Meant C × List IExpr). IsKnown reader known pair.0 × Any pair.1)
+        (IsKnown reader known)
         (both ((reading reader e.0).means locals (Some [])) (values_of reader locals (parts args)))
         (λ pair. call_on reader at name pair.0 pair.1 (method_on reader.view name (length (parts args)) pair.0.static_type))
         (whole-both (IsKnown reader known) Any ((reading reader e.0).means locals (Some [])) (values_of reader locals (parts args))
@@ -157,10 +162,10 @@ module _ {C M : Type 0} (reader : Reader C M) (known : ReadsKnown reader) where
   whole-New : (type : TypeName) (args : List With) (at : ℕ) → ReadsWhole (node_step reader (ExprNode-F.New type (parts args)) at)
   whole-New type args at = in_either_way (node_step reader (ExprNode-F.New type (parts args)) at)
       (λ locals all mode. whole-over (IsReadWith type) (IsKnown reader known)
-      (both (read_type reader at type) (values_of reader locals (parts args))) (λ pair. created reader at pair.0 pair.1 pair.0.ty)
-      (whole-typed type args at locals all) (λ pair is. whole-created reader known at pair.0 pair.1 pair.0.ty))
+      (both (read_type reader at type) (values_of reader locals (parts args))) (λ pair. created reader at pair.0 pair.1 pair.0.type)
+      (whole-typed type args at locals all) (λ pair is. whole-created reader known at pair.0 pair.1 pair.0.type))
 
-  read-known : (type : TypeName) (read : ReadType C) → IsRead reader type read → is_unread read.ty ≡ false
+  read-known : (type : TypeName) (read : ReadType C) → IsRead reader type read → is_unread read.type ≡ false
   read-known type read is = ap is_unread is.seen ∙ is.known
 
   whole-NewArray : (type : TypeName) (sizes : List With) (pairs at : ℕ)
@@ -168,17 +173,18 @@ module _ {C M : Type 0} (reader : Reader C M) (known : ReadsKnown reader) where
   whole-NewArray type sizes pairs at = in_either_way (node_step reader (ExprNode-F.NewArray type (parts sizes) pairs) at)
       (λ locals all mode. whole-mapped (IsReadWith type) (IsKnown reader known)
       (λ (made : ReadType C × List IExpr). meant reader (exprs.NewArray made.0.tree made.1 pairs)
-      (of_type (arrays (length (parts sizes) + pairs) made.0.ty)))
+      (of_type (arrays (length (parts sizes) + pairs) made.0.type)))
       (both (read_type reader at type) (values_of reader locals (parts sizes))) (whole-typed type sizes at locals all)
-      (λ made is. known-of_type (arrays (length (parts sizes) + pairs) made.0.ty)
-      (known-arrays (length (parts sizes) + pairs) made.0.ty (read-known type made.0 is.0))))
+      (λ made is. known-of_type (arrays (length (parts sizes) + pairs) made.0.type)
+      (known-arrays (length (parts sizes) + pairs) made.0.type (read-known type made.0 is.0))))
 
-  whole-ArrayLit : (type : TypeName) (items : List With) (at : ℕ) → ReadsWhole (node_step reader (ExprNode-F.ArrayLit type (parts items)) at)
+  whole-ArrayLit : (type : TypeName) (items : List With) (at : ℕ)
+      → ReadsWhole (node_step reader (ExprNode-F.ArrayLit type (parts items)) at)
   whole-ArrayLit type items at = in_either_way (node_step reader (ExprNode-F.ArrayLit type (parts items)) at)
       (λ locals all mode. whole-mapped (IsReadWith type) (IsKnown reader known)
-      (λ (made : ReadType C × List IExpr). meant reader (exprs.ArrayLit made.0.tree made.1) (of_type made.0.ty))
+      (λ (made : ReadType C × List IExpr). meant reader (exprs.ArrayLit made.0.tree made.1) (of_type made.0.type))
       (both (read_type reader at type) (values_of reader locals (parts items))) (whole-typed type items at locals all)
-      (λ made is. known-of_type made.0.ty (read-known type made.0 is.0)))
+      (λ made is. known-of_type made.0.type (read-known type made.0 is.0)))
 
   whole-Braces : (items : List With) (at : ℕ) → ReadsWhole (node_step reader (ExprNode-F.Braces (parts items)) at)
   whole-Braces items at = in_either_way (node_step reader (ExprNode-F.Braces (parts items)) at)
@@ -205,7 +211,8 @@ module _ {C M : Type 0} (reader : Reader C M) (known : ReadsKnown reader) where
   whole-Unary : (op : Name) (e : With) (at : ℕ) → ReadsWhole (node_step reader (ExprNode-F.Unary op (reading reader e.0)) at)
   whole-Unary op e at = in_either_way (node_step reader (ExprNode-F.Unary op (reading reader e.0)) at)
       (λ locals all mode. whole-mapped (IsKnown reader known) (IsKnown reader known)
-      (λ (value : Meant C). meant reader (exprs.Unary op value.tree) (unary_type op value.static_type)) (alone reader locals (reading reader e.0))
+      (λ (value : Meant C). meant reader (exprs.Unary op value.tree) (unary_type op value.static_type))
+      (alone reader locals (reading reader e.0))
       (whole-alone locals all e) (λ value is. known-unary op value.static_type is))
 
   whole-Post : (op : Name) (e : With) (at : ℕ) → ReadsWhole (node_step reader (ExprNode-F.Post (reading reader e.0) op) at)
@@ -214,14 +221,16 @@ module _ {C M : Type 0} (reader : Reader C M) (known : ReadsKnown reader) where
       (λ (value : Meant C). meant reader (exprs.Post op value.tree) value.static_type) (alone reader locals (reading reader e.0))
       (whole-alone locals all e) (λ value is. is))
 
-  whole-Binary : (op : Name) (a b : With) (at : ℕ) → ReadsWhole (node_step reader (ExprNode-F.Binary (reading reader a.0) op (reading reader b.0)) at)
+  whole-Binary : (op : Name) (a b : With) (at : ℕ) → ReadsWhole (node_step reader
+      (ExprNode-F.Binary (reading reader a.0) op (reading reader b.0)) at)
   whole-Binary op a b at = in_either_way (node_step reader (ExprNode-F.Binary (reading reader a.0) op (reading reader b.0)) at)
       (λ locals all mode. whole-mapped BothKnown (IsKnown reader known)
       (λ (pair : Meant C × Meant C). meant reader (exprs.Binary op pair.0.tree pair.1.tree) (binary_type op))
       (both (alone reader locals (reading reader a.0)) (alone reader locals (reading reader b.0))) (whole-two a b locals all)
       (λ pair is. known-binary C op))
 
-  whole-Assign : (op : Name) (a b : With) (at : ℕ) → ReadsWhole (node_step reader (ExprNode-F.Assign (reading reader a.0) op (reading reader b.0)) at)
+  whole-Assign : (op : Name) (a b : With) (at : ℕ) → ReadsWhole (node_step reader
+      (ExprNode-F.Assign (reading reader a.0) op (reading reader b.0)) at)
   whole-Assign op a b at = in_either_way (node_step reader (ExprNode-F.Assign (reading reader a.0) op (reading reader b.0)) at)
       (λ locals all mode. whole-mapped BothKnown (IsKnown reader known)
       (λ (pair : Meant C × Meant C). meant reader (exprs.Assign op pair.0.tree pair.1.tree) pair.0.static_type)
@@ -230,7 +239,8 @@ module _ {C M : Type 0} (reader : Reader C M) (known : ReadsKnown reader) where
 
   whole-Cond : (test a b : With) (at : ℕ)
       → ReadsWhole (node_step reader (ExprNode-F.Cond (reading reader test.0) (reading reader a.0) (reading reader b.0)) at)
-  whole-Cond test a b at = in_either_way (node_step reader (ExprNode-F.Cond (reading reader test.0) (reading reader a.0) (reading reader b.0)) at)
+  whole-Cond test a b at = in_either_way
+      (node_step reader (ExprNode-F.Cond (reading reader test.0) (reading reader a.0) (reading reader b.0)) at)
       (λ locals all mode. whole-mapped (λ (three : Meant C × (Meant C × Meant C)). IsKnown reader known three.0 × BothKnown three.1)
       (IsKnown reader known) (λ (three : Meant C × (Meant C × Meant C)). choice reader three.0 three.1.0 three.1.1)
       (both (alone reader locals (reading reader test.0))
@@ -243,12 +253,13 @@ module _ {C M : Type 0} (reader : Reader C M) (known : ReadsKnown reader) where
   whole-Cast : (type : TypeName) (e : With) (at : ℕ) → ReadsWhole (node_step reader (ExprNode-F.Cast type (reading reader e.0)) at)
   whole-Cast type e at = in_either_way (node_step reader (ExprNode-F.Cast type (reading reader e.0)) at)
       (λ locals all mode. whole-mapped (λ (pair : ReadType C × Meant C). IsRead reader type pair.0 × IsKnown reader known pair.1)
-      (IsKnown reader known) (λ (pair : ReadType C × Meant C). meant reader (exprs.Cast pair.0.tree pair.1.tree) (of_type pair.0.ty))
+      (IsKnown reader known) (λ (pair : ReadType C × Meant C). meant reader (exprs.Cast pair.0.tree pair.1.tree) (of_type pair.0.type))
       (both (read_type reader at type) (alone reader locals (reading reader e.0)))
       (whole-both (IsRead reader type) (IsKnown reader known) (read_type reader at type) (alone reader locals (reading reader e.0))
-      (type-whole reader at type) (whole-alone locals all e)) (λ pair is. known-of_type pair.0.ty (read-known type pair.0 is.0)))
+      (type-whole reader at type) (whole-alone locals all e)) (λ pair is. known-of_type pair.0.type (read-known type pair.0 is.0)))
 
-  whole-InstanceOf : (e : With) (type : TypeName) (at : ℕ) → ReadsWhole (node_step reader (ExprNode-F.InstanceOf (reading reader e.0) type) at)
+  whole-InstanceOf : (e : With) (type : TypeName) (at : ℕ) → ReadsWhole (node_step reader
+      (ExprNode-F.InstanceOf (reading reader e.0) type) at)
   whole-InstanceOf e type at = in_either_way (node_step reader (ExprNode-F.InstanceOf (reading reader e.0) type) at)
       (λ locals all mode. whole-mapped (λ (pair : Meant C × ReadType C). IsKnown reader known pair.0 × IsRead reader type pair.1)
       (IsKnown reader known) (λ (pair : Meant C × ReadType C). meant reader (exprs.InstanceOf pair.0.tree pair.1.tree) primitive_value)
@@ -272,7 +283,8 @@ module _ {C M : Type 0} (reader : Reader C M) (known : ReadsKnown reader) where
   layer (ExprNode-F.Name name) = from (ExprNode-F.Name name) (λ at. whole-Name name at)
   layer (ExprNode-F.Dot e name) = from (ExprNode-F.Dot e.0 name) (λ at. whole-Dot e name at)
   layer (ExprNode-F.Call None name args) = from (ExprNode-F.Call None name (map (λ p. p.0) args)) (λ at. whole-Call name args at)
-  layer (ExprNode-F.Call (Some e) name args) = from (ExprNode-F.Call (Some e.0) name (map (λ p. p.0) args)) (λ at. whole-CallOn e name args at)
+  layer (ExprNode-F.Call (Some e) name args) = from (ExprNode-F.Call (Some e.0) name (map (λ p. p.0) args))
+      (λ at. whole-CallOn e name args at)
   layer (ExprNode-F.SuperCall name args) = from (ExprNode-F.SuperCall name (map (λ p. p.0) args)) (λ at. whole-SuperCall name args at)
   layer (ExprNode-F.New type args) = from (ExprNode-F.New type (map (λ p. p.0) args)) (λ at. whole-New type args at)
   layer (ExprNode-F.NewArray type sizes pairs) =
@@ -287,7 +299,8 @@ module _ {C M : Type 0} (reader : Reader C M) (known : ReadsKnown reader) where
   layer (ExprNode-F.Cond test a b) = from (ExprNode-F.Cond test.0 a.0 b.0) (λ at. whole-Cond test a b at)
   layer (ExprNode-F.Cast type e) = from (ExprNode-F.Cast type e.0) (λ at. whole-Cast type e at)
   layer (ExprNode-F.InstanceOf e type) = from (ExprNode-F.InstanceOf e.0 type) (λ at. whole-InstanceOf e type at)
-  layer (ExprNode-F.Paren e) = from (ExprNode-F.Paren e.0) (λ at. in_either_way (node_step reader (ExprNode-F.Paren (reading reader e.0)) at)
+  layer (ExprNode-F.Paren e) = from (ExprNode-F.Paren e.0)
+      (λ at. in_either_way (node_step reader (ExprNode-F.Paren (reading reader e.0)) at)
       (λ locals all mode. whole-alone locals all e))
 
   placed : (y : Expr-F ((n : ExprNode) × WholeNode n) With) → Whole (roll-Expr (map-Expr _ _ _ _ (λ p. p.0) (λ p. p.0) y))
@@ -300,5 +313,6 @@ module _ {C M : Type 0} (reader : Reader C M) (known : ReadsKnown reader) where
       (λ x y is. subst (λ z. Whole (roll-Expr z)) is (placed y))
 
   pub whole-read_expr : (locals : Locals C) → KnownLocals locals → (e : Expr) → IsWhole Any (read_expr reader locals e)
-  whole-read_expr locals all e = whole-mapped (IsKnown reader known) Any (λ (value : Meant C). value.tree) (alone reader locals (reading reader e))
+  whole-read_expr locals all e = whole-mapped (IsKnown reader known) Any (λ (value : Meant C). value.tree)
+      (alone reader locals (reading reader e))
       ((all_whole e).by_itself locals all) (λ value is. tt)

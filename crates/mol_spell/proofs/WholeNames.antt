@@ -33,10 +33,10 @@ pub record ReadsKnown {C M : Type 0} (reader : Reader C M) : Type 0 where
   pub ordered : IsOrdered reader.view
   pub fields : (field : ViewField C M) → Contains reader.view.fields field → is_unread field.type ≡ false
   pub results : (declared : ViewDeclaration C M) → Contains reader.view.declarations declared → is_unread declared.result ≡ false
-  pub params : (param : Parameter C) → Contains reader.params param → is_unread param.ty ≡ false
+  pub params : (param : Parameter C) → Contains reader.params param → is_unread param.type ≡ false
 
 abbrev pub KnownLocals : {C : Type 0} → Locals C → Type 0
-KnownLocals {C} locals = (local : Local C) → Contains locals.declared local → is_unread local.ty ≡ false
+KnownLocals {C} locals = (local : Local C) → Contains locals.declared local → is_unread local.type ≡ false
 
 -- what a rule reads, of what its function finds
 answered : {A : Type 0} {Reads : A → Type 0} {answer : A} → IsTheAnswer Reads answer → (reading : A) → answer ≡ reading → Reads reading
@@ -44,7 +44,8 @@ answered {A} {Reads} is reading same = subst Reads same is.holds
 
 -- ---- spelled classes
 
-if-none : {C : Type 0} (whole front : Bool) (class : C) → (if whole then whole_path class else if front then front_path else no_path) ≡ no_path
+if-none : {C : Type 0} (whole front : Bool) (class : C)
+    → (if whole then whole_path class else if front then front_path else no_path) ≡ no_path
     → (whole ≡ false) × (front ≡ false)
 if-none true front class is = absurd cc
 if-none false true class is = absurd cc
@@ -77,7 +78,13 @@ record Spells {C M : Type 0} (count : ℕ) (first : Leftmost C M) : Type 0 where
 
 path-front : {C M : Type 0} (count : ℕ) (first : Leftmost C M) → path_by count first ≡ front_path → Spells count first
 path-front count (leftmost_class class spelling) is =
-    record { class = class; spelling = spelling; is = refl; fewer = ltb-true count spelling (if-front (spelling == count) (nat_lt count spelling) class is) }
+    record {
+      class = class;
+      spelling = spelling;
+      is = refl;
+      fewer = ltb-true count spelling
+          (if-front (spelling == count) (nat_lt count spelling) class is);
+    }
 path-front count (leftmost_variable v) is = absurd cc
 path-front count (leftmost_import import) is = absurd cc
 path-front count leftmost_outside is = absurd cc
@@ -93,12 +100,12 @@ module _ {C M : Type 0} (reader : Reader C M) (known : ReadsKnown reader) where
   -- ---- variables
 
   local-known : (locals : Locals C) → KnownLocals locals → (number : ℕ)
-      → has_unread (option_map_or (λ (local : Local C). of_type local.ty) (slice_get locals.declared number) mixed_value) ≡ false
+      → has_unread (option_map_or (λ (local : Local C). of_type local.type) (slice_get locals.declared number) mixed_value) ≡ false
   local-known locals all number = by (slice_get locals.declared number) refl where
     by : (o : Option (Local C)) → slice_get locals.declared number ≡ o
-        → has_unread (option_map_or (λ (local : Local C). of_type local.ty) o mixed_value) ≡ false
+        → has_unread (option_map_or (λ (local : Local C). of_type local.type) o mixed_value) ≡ false
     by None is = refl
-    by (Some local) is = known-of_type local.ty (all local (in_place locals.declared number local is))
+    by (Some local) is = known-of_type local.type (all local (in_place locals.declared number local is))
 
   got-before : {X Y : Type 0} (make : X → Y) (o : Option X) (y : Y) → option_map make o ≡ Some y → (x : X) × (o ≡ Some x)
   got-before make None y is = absurd cc
@@ -118,8 +125,8 @@ module _ {C M : Type 0} (reader : Reader C M) (known : ReadsKnown reader) where
       let param = got-before (λ (param : Parameter C). param.name) (slice_get reader.params place) name
       (sym (slice_get-map (λ (param : Parameter C). param.name) reader.params place) ∙ is) in
       subst (λ (o : Option (Parameter C)). IsWhole IsKnown (param_meant reader o)) (sym param.1)
-      (whole-valued (exprs.Param param.0.id) (of_type param.0.ty)
-      (known-of_type param.0.ty (known.params param.0 (in_place reader.params place param.0 param.1))))
+      (whole-valued (exprs.Param param.0.id) (of_type param.0.type)
+      (known-of_type param.0.type (known.params param.0 (in_place reader.params place param.0 param.1))))
 
   module _ (locals : Locals C) (all : KnownLocals locals) where
     whole-variable : (name : Name) (v : Variable C M) → IsVariableAt reader.view (place_of reader locals) name v
@@ -130,9 +137,11 @@ module _ {C M : Type 0} (reader : Reader C M) (known : ReadsKnown reader) where
         whole-valued (field_word reader field.is_static (reader.ids.member_id field.key)) (of_type field.type)
         (known-of_type field.type (known.fields field is.stands))
 
-    pub whole-name_alone : (at : ℕ) (name : Name) → IsWhole IsKnown (name_alone reader at name locals (variable reader.view (place_of reader locals) name))
+    pub whole-name_alone : (at : ℕ) (name : Name) → IsWhole IsKnown (name_alone reader at name locals
+        (variable reader.view (place_of reader locals) name))
     whole-name_alone at name = by (variable reader.view (place_of reader locals) name) refl where
-      by : (f : Found (Variable C M)) → variable reader.view (place_of reader locals) name ≡ f → IsWhole IsKnown (name_alone reader at name locals f)
+      by : (f : Found (Variable C M)) → variable reader.view (place_of reader locals) name ≡ f
+          → IsWhole IsKnown (name_alone reader at name locals f)
       by (found v) is = whole-variable name v ((names_stand C M).variables reader.view (place_of reader locals) name v
           (answered ((names_answered C M).variables reader.view (place_of reader locals) name known.ordered) (found v) is))
       by outside is = whole-valued (exprs.OutsideName name) outside_value refl
@@ -170,7 +179,8 @@ module _ {C M : Type 0} (reader : Reader C M) (known : ReadsKnown reader) where
         → path_of reader locals (longer name names) follow ≢ no_path
     never_front None name follow front none = absurd cc
     never_front (Some dotted) name follow front none =
-        let spells = path-front (suc (length dotted.rest)) (leftmost reader.view (place_of reader locals) dotted.first (dotted.rest ++ (name ∷ follow))) front in
+        let spells = path-front (suc (length dotted.rest)) (leftmost reader.view (place_of reader locals) dotted.first
+        (dotted.rest ++ (name ∷ follow))) front in
         let same : leftmost reader.view (place_of reader locals) dotted.first ((dotted.rest ++ name ∷ []) ++ follow)
         ≡ leftmost_class spells.class spells.spelling
         = ap (leftmost reader.view (place_of reader locals) dotted.first) (append_assoc dotted.rest (name ∷ []) follow) ∙ spells.is in
@@ -182,7 +192,8 @@ module _ {C M : Type 0} (reader : Reader C M) (known : ReadsKnown reader) where
     pub never_front_of_call : (names : Option Dotted) → path_of reader locals names [] ≢ front_path
     never_front_of_call None front = absurd cc
     never_front_of_call (Some dotted) front =
-        let spells = path-front (suc (length dotted.rest)) (leftmost reader.view (place_of reader locals) dotted.first (dotted.rest ++ [])) front in
+        let spells = path-front (suc (length dotted.rest)) (leftmost reader.view (place_of reader locals) dotted.first
+        (dotted.rest ++ [])) front in
         let there = counted dotted.first (dotted.rest ++ []) spells.class spells.spelling spells.is in
         omega (arith, spells.fewer, there.1, length-append dotted.rest [])
 
@@ -208,7 +219,8 @@ module _ {C M : Type 0} (reader : Reader C M) (known : ReadsKnown reader) where
   pub whole-field_on : (at : ℕ) (name : Name) (value : Meant C) → IsKnown value
       → IsWhole IsKnown (field_meant reader at name value (field_on reader.view name value.static_type))
   whole-field_on at name value is_known = by (field_on reader.view name value.static_type) refl where
-    reads : (o : OnValue (ViewField C M)) → field_on reader.view name value.static_type ≡ o → ReadsFieldOn reader.view name value.static_type o
+    reads : (o : OnValue (ViewField C M)) → field_on reader.view name value.static_type ≡ o
+        → ReadsFieldOn reader.view name value.static_type o
     reads o is = answered ((names_answered C M).fields_on reader.view name value.static_type known.ordered) o is
 
     by : (o : OnValue (ViewField C M)) → field_on reader.view name value.static_type ≡ o
@@ -219,7 +231,8 @@ module _ {C M : Type 0} (reader : Reader C M) (known : ReadsKnown reader) where
         (known-of_type field.type (known.fields field stands.2.stands))
     by (static_member field) is = whole-refused IsKnown static_by_instance at
     by outside_member is =
-        whole-valued (exprs.OutsideField name value.tree) (outside_field value.static_type name) (known-outside_field value.static_type name)
+        whole-valued (exprs.OutsideField name value.tree) (outside_field value.static_type name)
+        (known-outside_field value.static_type name)
     by missing_member is = whole-refused IsKnown unknown_member at
     by has_no_members is = whole-refused IsKnown receiver_type at
     by unread_member is = absurd (true≢false (sym (never_unread value.static_type (reads unread_member is)) ∙ is_known))
@@ -231,7 +244,8 @@ module _ {C M : Type 0} (reader : Reader C M) (known : ReadsKnown reader) where
     result-known = known-of_type declared.result (known.results declared stands)
 
     whole-static_call : IsWhole IsKnown (static_call reader declared args)
-    whole-static_call = whole-valued (exprs.StaticCall (reader.ids.method_id declared) (arguments_of reader declared args)) (of_type declared.result)
+    whole-static_call = whole-valued (exprs.StaticCall (reader.ids.method_id declared) (arguments_of reader declared args))
+        (of_type declared.result)
         result-known
 
     whole-own_call : IsWhole IsKnown (own_call reader declared args)
@@ -246,7 +260,8 @@ module _ {C M : Type 0} (reader : Reader C M) (known : ReadsKnown reader) where
   pub whole-call_here : (at : ℕ) (name : Name) (args : List IExpr) (class : C) (arity : ℕ)
       → IsWhole IsKnown (call_here reader at name args (method_from reader.view class name arity))
   whole-call_here at name args class arity = by (method_from reader.view class name arity) refl where
-    by : (f : Found (ViewDeclaration C M)) → method_from reader.view class name arity ≡ f → IsWhole IsKnown (call_here reader at name args f)
+    by : (f : Found (ViewDeclaration C M)) → method_from reader.view class name arity ≡ f
+        → IsWhole IsKnown (call_here reader at name args f)
     by (found declared) is =
         let stands = (names_stand C M).methods reader.view class name arity declared
         (answered ((names_answered C M).methods reader.view class name arity known.ordered) (found declared) is) in
@@ -258,7 +273,8 @@ module _ {C M : Type 0} (reader : Reader C M) (known : ReadsKnown reader) where
   pub whole-call_through : (at : ℕ) (name : Name) (args : List IExpr) (class : C) (arity : ℕ)
       → IsWhole IsKnown (call_through reader at args (method_through reader.view class name arity))
   whole-call_through at name args class arity = by (method_through reader.view class name arity) refl where
-    by : (o : Option (ViewDeclaration C M)) → method_through reader.view class name arity ≡ o → IsWhole IsKnown (call_through reader at args o)
+    by : (o : Option (ViewDeclaration C M)) → method_through reader.view class name arity ≡ o
+        → IsWhole IsKnown (call_through reader at args o)
     by None is = whole-refused IsKnown unknown_member at
     by (Some declared) is = whole-static_call declared ((names_stand C M).static_methods reader.view class name arity declared
         (answered ((names_answered C M).static_methods reader.view class name arity known.ordered) (Some declared) is)).stands args
@@ -275,7 +291,8 @@ module _ {C M : Type 0} (reader : Reader C M) (known : ReadsKnown reader) where
     by (member declared) is =
         let stands = (names_stand C M).methods_on reader.view name arity value.static_type declared (inl (reads (member declared) is)) in
         whole-if IsKnown value.is_this (own_call reader declared args) _ (whole-own_call declared stands.2.stands args)
-        (whole-valued (exprs.CallOn (reader.ids.method_id declared) value.tree (arguments_of reader declared args)) (of_type declared.result)
+        (whole-valued (exprs.CallOn (reader.ids.method_id declared) value.tree (arguments_of reader declared args))
+        (of_type declared.result)
         (result-known declared stands.2.stands args))
     by (static_member declared) is = whole-refused IsKnown static_by_instance at
     by outside_member is = whole-valued (exprs.OutsideCallOn name value.tree args) (outside_call value.static_type name (length args))
@@ -287,7 +304,8 @@ module _ {C M : Type 0} (reader : Reader C M) (known : ReadsKnown reader) where
   pub whole-super_call : (at : ℕ) (name : Name) (args : List IExpr) (class : C) (arity : ℕ)
       → IsWhole IsKnown (super_call reader at name args (super_method reader.view class name arity))
   whole-super_call at name args class arity = by (super_method reader.view class name arity) refl where
-    by : (f : Found (ViewDeclaration C M)) → super_method reader.view class name arity ≡ f → IsWhole IsKnown (super_call reader at name args f)
+    by : (f : Found (ViewDeclaration C M)) → super_method reader.view class name arity ≡ f
+        → IsWhole IsKnown (super_call reader at name args f)
     by (found declared) is =
         let stands = (names_stand C M).super_methods reader.view class name arity declared
         (answered ((names_answered C M).super_methods reader.view class name arity known.ordered) (found declared) is) in
@@ -305,7 +323,8 @@ module _ {C M : Type 0} (reader : Reader C M) (known : ReadsKnown reader) where
   whole-class_created : (at : ℕ) (class : C) (args : List IExpr) (arity : ℕ)
       → IsWhole IsKnown (class_created reader at class args (constructor_from reader.view class arity))
   whole-class_created at class args arity = by (constructor_from reader.view class arity) refl where
-    by : (f : Found (Constructor C M)) → constructor_from reader.view class arity ≡ f → IsWhole IsKnown (class_created reader at class args f)
+    by : (f : Found (Constructor C M)) → constructor_from reader.view class arity ≡ f
+        → IsWhole IsKnown (class_created reader at class args f)
     by (found (declared_constructor declared)) is =
         whole-valued (exprs.New (reader.ids.method_id declared) (arguments_of reader declared args)) (class_value class) refl
     by (found (default_constructor created)) is = whole-valued (exprs.NewDefault (reader.ids.class_id created)) (class_value class) refl
@@ -313,7 +332,8 @@ module _ {C M : Type 0} (reader : Reader C M) (known : ReadsKnown reader) where
         (answered ((names_answered C M).constructors reader.view class arity known.ordered) outside is))
     by not_found is = whole-refused IsKnown unknown_member at
 
-  pub whole-created : (at : ℕ) (type : ReadType C) (args : List IExpr) (seen : ViewType C) → IsWhole IsKnown (created reader at type args seen)
+  pub whole-created : (at : ℕ) (type : ReadType C) (args : List IExpr) (seen : ViewType C)
+      → IsWhole IsKnown (created reader at type args seen)
   whole-created at type args (class_type class) = whole-class_created at class args (length args)
   whole-created at type args (primitive_type name) = whole-valued (exprs.NewOutside type.tree args) outside_value refl
   whole-created at type args void_type = whole-valued (exprs.NewOutside type.tree args) outside_value refl

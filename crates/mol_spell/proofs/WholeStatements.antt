@@ -83,7 +83,8 @@ module _ {C A B : Type 0} where
     whole = λ none.
         let none_here = none-first first.outcome.faults (next first.locals).outcome.faults none in
         let here = whole.whole none_here in
-        let there = (more first.locals (whole.locals none_here)).whole (none-last first.outcome.faults (next first.locals).outcome.faults none) in
+        let there = (more first.locals (whole.locals none_here)).whole
+        (none-last first.outcome.faults (next first.locals).outcome.faults none) in
         ((here.0, there.0), rw (here.1, there.1) refl, tt);
     locals = λ none.
         (more first.locals (whole.locals (none-first first.outcome.faults (next first.locals).outcome.faults none))).locals
@@ -101,14 +102,14 @@ module _ {C M : Type 0} (reader : Reader C M) (reads : ReadsKnown reader) where
   known-declared : (type : ViewType C) (name : Name) (locals : Locals C) → is_unread type ≡ false → KnownLocals locals
       → KnownLocals (declaring reader type name locals)
   known-declared type name locals is known local stands =
-      by (in_either locals.declared (record { name = name; ty = type } ∷ []) local stands) where
-        last : (record { name = name; ty = type } ≡ local) ⊎ Contains [] local → is_unread local.ty ≡ false
-        last (inl same) = ap (λ (l : Local C). is_unread l.ty) (sym same) ∙ is
+      by (in_either locals.declared (record { name = name; type = type } ∷ []) local stands) where
+        last : (record { name = name; type = type } ≡ local) ⊎ Contains [] local → is_unread local.type ≡ false
+        last (inl same) = ap (λ (l : Local C). is_unread l.type) (sym same) ∙ is
         last (inr nowhere) = absurd (stands_nowhere local nowhere)
 
-        by : Contains locals.declared local ⊎ Contains (record { name = name; ty = type } ∷ []) local → is_unread local.ty ≡ false
+        by : Contains locals.declared local ⊎ Contains (record { name = name; type = type } ∷ []) local → is_unread local.type ≡ false
         by (inl before) = known local before
-        by (inr here) = last (stands_where (record { name = name; ty = type }) local [] here)
+        by (inr here) = last (stands_where (record { name = name; type = type }) local [] here)
 
   whole-read_maybe : (locals : Locals C) → KnownLocals locals → (e : Option Expr) → IsWhole Any (read_maybe reader locals e)
   whole-read_maybe locals known None = whole-fine Any None tt
@@ -170,7 +171,8 @@ module _ {C M : Type 0} (reader : Reader C M) (reads : ReadsKnown reader) where
         locals = λ none. body.locals (none-last (redeclared_faults reader at name locals) made.outcome.faults none);
       }
 
-  abbrev node_step : StmtNode-F (ReadsTo C IElse) (ℕ → ReadsTo C ReadNode) (ReadsTo C IBlock) (ReadsTo C ReadStatement) → ℕ → ReadsTo C ReadNode
+  abbrev node_step : StmtNode-F (ReadsTo C IElse) (ℕ → ReadsTo C ReadNode) (ReadsTo C IBlock) (ReadsTo C ReadStatement) → ℕ
+      → ReadsTo C ReadNode
   node_step = statements.node_step reader
 
   abbrev ElseWhole : Else → Type 0
@@ -228,7 +230,8 @@ module _ {C M : Type 0} (reader : Reader C M) (reads : ReadsKnown reader) where
       (λ at locals known. on-mapped _ _ (on-then _ _ (whole-test locals known test) b.1)))
   node_whole (StmtNode-F.For start test steps b) = subst NodeWhole (sym (stmt.rolls-For start test steps b.0))
       (node (stmt.For start test steps b.0) _ (fold-node-For (statement reader) node_step start test steps b.0)
-      (λ at locals known. on-block locals _ (on-mapped _ _ (on-then _ _ (on-then _ (λ inside. declaring_none inside (read_header reader inside test steps))
+      (λ at locals known. on-block locals _
+      (on-mapped _ _ (on-then _ _ (on-then _ (λ inside. declaring_none inside (read_header reader inside test steps))
       (whole-start at start locals known) (λ inside known. on-none inside _ known (whole-header test steps inside known))) b.1))))
   node_whole (StmtNode-F.Each is_final type name e b) = subst NodeWhole (sym (stmt.rolls-Each is_final type name e b.0))
       (node (stmt.Each is_final type name e b.0) _ (fold-node-Each (statement reader) node_step is_final type name e b.0)
@@ -246,7 +249,8 @@ module _ {C M : Type 0} (reader : Reader C M) (reads : ReadsKnown reader) where
   node_whole StmtNode-F.Break = subst NodeWhole (sym stmt.rolls-Break)
       (node stmt.Break _ (fold-node-Break (statement reader) node_step) (λ at locals known. on-none locals _ known (whole-fine Any _ tt)))
   node_whole StmtNode-F.Continue = subst NodeWhole (sym stmt.rolls-Continue)
-      (node stmt.Continue _ (fold-node-Continue (statement reader) node_step) (λ at locals known. on-none locals _ known (whole-fine Any _ tt)))
+      (node stmt.Continue _ (fold-node-Continue (statement reader) node_step)
+      (λ at locals known. on-none locals _ known (whole-fine Any _ tt)))
   node_whole StmtNode-F.Empty = subst NodeWhole (sym stmt.rolls-Empty)
       (node stmt.Empty _ (fold-node-Empty (statement reader) node_step) (λ at locals known. on-none locals _ known (whole-fine Any _ tt)))
   node_whole (StmtNode-F.SuperInit args) = subst NodeWhole (sym (stmt.rolls-SuperInit args))

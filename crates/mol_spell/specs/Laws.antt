@@ -35,7 +35,7 @@ pub record ValuesThere : Type 0 where
 pub record MethodsShared : Type 0 where
   pub by_name : (files : Files) (program : Program) → HasNoFault files → HoldsWhatIsSaid files program → MethodsByName files program
 
--- The lists of faults hold the faults of files. Files have none, or one that is the first; and of files with different paths at most one is.
+-- The lists of faults hold the faults of files. Files have none, or one that is the first; and where their paths differ, no other is.
 pub record FirstFaults : Type 0 where
   pub listed : (files : Files) (kind : FaultKind) (number at : ℕ)
       → Fails files kind number at

@@ -6,7 +6,7 @@ use Rattle.jav_view.specs.Views.{ViewType}
 
 pub record Local (C : Type 0) : Type 0 where
   pub name : Name
-  pub ty : ViewType C
+  pub type : ViewType C
 
 -- The locals up to a place in a body: all that were declared, each of which has its place in this list as its number; and the numbers
 -- of those in scope, the nearest last.

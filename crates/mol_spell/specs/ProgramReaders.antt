@@ -15,7 +15,7 @@ use Rattle.jav_view.specs.Types.{Header}
 use Rattle.jav_view.specs.Views.{ViewClass, ViewField, ViewDeclaration}
 use Rattle.mol_spell.specs.FaultKinds.{FaultKind}
 use Rattle.mol_spell.specs.MemberFaults.{a_field, a_method, a_constructor, Row, row_of, IsBetween}
-use Rattle.mol_spell.specs.ProgramViews.{seen, class_in, kind_in, program_view, method_at, program_ids}
+use Rattle.mol_spell.specs.ProgramViews.{seen, living_class, kind_in, program_view, method_at, program_ids}
 use Rattle.mol_spell.specs.Readers.{Parameter, Reader}
 use Rattle.mol_spell.specs.ReadTypes.{seen_type}
 
@@ -23,7 +23,7 @@ use Rattle.mol_spell.specs.ReadTypes.{seen_type}
 
 -- a class by its identity, if it lives
 abbrev pub class_at : Program → Id → Option (ViewClass Id)
-class_at program class = option_and_then (λ (known : Known). class_in program (class, known)) (get program.known class)
+class_at program class = option_and_then (λ (known : Known). living_class program (class, known)) (get program.known class)
 
 -- the header of the file of a class, with these imports
 abbrev pub class_header : Program → Id → Names → Header Id
@@ -49,7 +49,7 @@ abbrev pub field_reader : Program → Names → Id → Option (Reader Id Id)
 field_reader program imports field = option_map (class_reader program imports) (owner_at program field)
 
 abbrev pub parameter_in : Param → Parameter Id
-parameter_in param = record { name = param.name; ty = seen param.ty; id = param.id }
+parameter_in param = record { name = param.name; type = seen param.ty; id = param.id }
 
 abbrev pub declaration_in_class : Program → Names → Id → Id → Reader Id Id
 declaration_in_class program imports method class = record (class_reader program imports class) {

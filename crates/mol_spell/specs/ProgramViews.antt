@@ -41,10 +41,10 @@ seen = fold-IType (ViewType Id) seen_step
 -- ---- classes
 
 -- a class that lives
-abbrev pub class_in : Program → Id × Known → Option (ViewClass Id)
-class_in program (id, knowns.Class) =
+abbrev pub living_class : Program → Id × Known → Option (ViewClass Id)
+living_class program (id, knowns.Class) =
     if living_at program id then Some (record { key = id; «package» = package_at program id; name = name_at program id }) else None
-class_in program entry = None
+living_class program entry = None
 
 abbrev pub superclass_in : Option Value → Option (ViewType Id)
 superclass_in (Some (values.Super parent)) = option_map seen parent
@@ -61,7 +61,7 @@ words_in (Some (values.Words words)) = words.texts
 words_in value = []
 
 abbrev pub field_type_in : Option Value → ViewType Id
-field_type_in (Some (values.Value ty init)) = seen ty
+field_type_in (Some (values.Value type init)) = seen type
 field_type_in value = unread_type
 
 abbrev pub field_type_at : Program → Id → ViewType Id
@@ -77,9 +77,9 @@ field_of program id owner = record {
 }
 
 -- a field that lives; its owner need not live
-abbrev pub field_in : Program → Id × Known → Option (ViewField Id Id)
-field_in program (id, knowns.Field) = if living_at program id then option_map (field_of program id) (owner_at program id) else None
-field_in program entry = None
+abbrev pub living_field : Program → Id × Known → Option (ViewField Id Id)
+living_field program (id, knowns.Field) = if living_at program id then option_map (field_of program id) (owner_at program id) else None
+living_field program entry = None
 
 -- ---- declarations
 
@@ -90,7 +90,7 @@ kind_in (Some (knowns.Method Constructor)) = constructor
 kind_in known = instance_method
 
 abbrev pub result_in : Option Value → ViewType Id
-result_in (Some (values.Result ty)) = seen ty
+result_in (Some (values.Result type)) = seen type
 result_in value = unread_type
 
 abbrev pub result_at : Program → Id → ViewType Id
@@ -108,20 +108,20 @@ declaration_of program id method owner = record {
 }
 
 -- a declaration that lives; its owner need not live
-abbrev pub declaration_in : Program → Id × Known → Option (ViewDeclaration Id Id)
-declaration_in program (id, knowns.Decl method) =
+abbrev pub living_declaration : Program → Id × Known → Option (ViewDeclaration Id Id)
+living_declaration program (id, knowns.Decl method) =
     if living_at program id then option_map (declaration_of program id method) (owner_at program id) else None
-declaration_in program entry = None
+living_declaration program entry = None
 
 -- ---- the view
 
 -- What lives, ascending by identity.
 abbrev pub program_view : Program → View Id Id
 program_view program = record {
-  classes = record { cmp = id_cmp; items = filter_map (class_in program) (entries program.known) };
+  classes = record { cmp = id_cmp; items = filter_map (living_class program) (entries program.known) };
   member_cmp = id_cmp;
-  fields = filter_map (field_in program) (entries program.known);
-  declarations = filter_map (declaration_in program) (entries program.known);
+  fields = filter_map (living_field program) (entries program.known);
+  declarations = filter_map (living_declaration program) (entries program.known);
   superclass = superclass_at program;
 }
 

@@ -82,7 +82,7 @@ HoldsWhatIsSaid = HoldsAll SaysValue
 
 -- ---- methods
 
--- Two declarations have one name and number of parameters, and so has one in the class of each or in a class above it: the same for both.
+-- Two declarations have one name and number of parameters, and one declaration of these stands in the class of each or above it.
 pub record ShareMethod (files : Files) (first second : ViewDeclaration ℕ MemberKey) : Type 0 where
   pub named : first.name ≡ second.name
   pub as_many : first.arity ≡ second.arity

@@ -36,7 +36,7 @@ file_reader files file = record {
 }
 
 abbrev pub parameter_of : Reader ℕ MemberKey → Id × Param → Parameter ℕ
-parameter_of reader param = record { name = param.1.name; ty = seen_type reader param.1.ty; id = param.0 }
+parameter_of reader param = record { name = param.1.name; type = seen_type reader param.1.ty; id = param.0 }
 
 abbrev pub declared_ids : Files → Option (ViewDeclaration ℕ MemberKey) → List Id
 declared_ids files None = []
@@ -94,7 +94,7 @@ member_faults files at = faults_in (member_reader files at) at.member
 
 -- a superclass has its place at the beginning of the file
 abbrev pub superclass_faults : Files → ℕ × File → List TreeFault
-superclass_faults files file = option_map_or (λ ty. (read_type (file_reader files file) 0 ty).faults) file.1.unit.class.parent []
+superclass_faults files file = option_map_or (λ type. (read_type (file_reader files file) 0 type).faults) file.1.unit.class.parent []
 
 abbrev pub tree_faults : Files → ℕ × File → List TreeFault
 tree_faults files file =

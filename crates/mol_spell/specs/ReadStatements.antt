@@ -95,7 +95,7 @@ module _ {C M : Type 0} (reader : Reader C M) where
       if list_any (bytes_eq name) (names_in_scope locals ++ param_names reader) then record { kind = redeclared; at = at } ∷ [] else []
 
   abbrev pub declaring : ViewType C → Name → Locals C → Locals C
-  declaring ty name locals = declare (record { name = name; ty = ty }) locals
+  declaring type name locals = declare (record { name = name; type = type }) locals
 
   abbrev pub read_exprs : Locals C → List Expr → Outcome (List IExpr)
   read_exprs locals es = all (map (read_expr reader locals) es)
@@ -105,9 +105,10 @@ module _ {C M : Type 0} (reader : Reader C M) where
 
   -- its first value is read in its own scope
   abbrev pub read_declarator : ℕ → ViewType C → Declarator → Locals C → ReadOn C IDeclarator
-  read_declarator at ty declarator locals = declaring_none (declaring ty declarator.name locals)
+  read_declarator at type declarator locals = declaring_none (declaring type declarator.name locals)
       (with_faults (redeclared_faults at declarator.name locals)
-      (mapped (λ init. record { name = declarator.name; init = init }) (read_maybe (declaring ty declarator.name locals) declarator.init)))
+      (mapped (λ init. record { name = declarator.name; init = init })
+      (read_maybe (declaring type declarator.name locals) declarator.init)))
 
   abbrev pub let_of : Bool → ReadType C × List IDeclarator → ILet
   let_of is_final parts = record { is_final = is_final; ty = parts.0.tree; names = parts.1 }
@@ -143,8 +144,8 @@ module _ {C M : Type 0} (reader : Reader C M) where
 
   -- The body of `for (T name : e)`. The local is in scope in the body alone.
   abbrev pub read_each : ℕ → ViewType C → Name → ReadsTo C IBlock → ReadsTo C IBlock
-  read_each at ty name block locals =
-      let body = block (declaring ty name locals) in
+  read_each at type name block locals =
+      let body = block (declaring type name locals) in
       record { locals = at_end_of_block locals body.locals; outcome = with_faults (redeclared_faults at name locals) body.outcome }
 
   -- The grammar has no statement after `else` but an `if` and a block; any other is as in a block of its own.
@@ -172,10 +173,10 @@ module _ {C M : Type 0} (reader : Reader C M) where
       in_block locals (mapped_on
       (λ (parts : (IForStart × (Option IExpr × List IExpr)) × IBlock). plain (nodes.For parts.0.0 parts.0.1.0 parts.0.1.1 parts.1))
       (then_next (then_next (read_start at start locals) (λ inside. declaring_none inside (read_header inside test steps))) block))
-  node_step (StmtNode-F.Each is_final ty name e block) at locals =
+  node_step (StmtNode-F.Each is_final type name e block) at locals =
       mapped_on (λ (parts : (ReadType C × IExpr) × IBlock). plain (nodes.Each is_final parts.0.0.tree name parts.0.1 parts.1))
-      (then_next (declaring_none locals (both (read_type reader at ty) (read_expr reader locals e)))
-      (read_each at (seen_type reader ty) name block))
+      (then_next (declaring_none locals (both (read_type reader at type) (read_expr reader locals e)))
+      (read_each at (seen_type reader type) name block))
   node_step (StmtNode-F.Return e) at locals = declaring_none locals (mapped (λ e. plain (nodes.Return e)) (read_maybe locals e))
   node_step (StmtNode-F.Throw e) at locals = declaring_none locals (mapped (λ e. plain (nodes.Throw e)) (read_expr reader locals e))
   node_step StmtNode-F.Break at locals = declaring_none locals (fine (plain nodes.Break))

@@ -78,8 +78,8 @@ with_params ids values = map (λ (pair : Id × IExpr). record { param = pair.0; 
 
 -- an array of arrays, so many times
 abbrev pub arrays : {C : Type 0} → ℕ → ViewType C → ViewType C
-arrays zero ty = ty
-arrays (suc count) ty = array_type (arrays count ty)
+arrays zero type = type
+arrays (suc count) type = array_type (arrays count type)
 
 -- `++` and `--` have the type of what they step (JLS 15.14, 15.15), the other prefix operators a primitive one
 abbrev pub unary_type : {C : Type 0} → Name → StaticType C → StaticType C
@@ -108,11 +108,11 @@ module _ {C M : Type 0} (reader : Reader C M) where
   abbrev pub local_meant : Locals C → Option ℕ → Outcome (Meant C)
   local_meant locals None = silent
   local_meant locals (Some number) =
-      valued (exprs.Local number) (option_map_or (λ local. of_type local.ty) (slice_get locals.declared number) mixed_value)
+      valued (exprs.Local number) (option_map_or (λ local. of_type local.type) (slice_get locals.declared number) mixed_value)
 
   abbrev pub param_meant : Option (Parameter C) → Outcome (Meant C)
   param_meant None = silent
-  param_meant (Some param) = valued (exprs.Param param.id) (of_type param.ty)
+  param_meant (Some param) = valued (exprs.Param param.id) (of_type param.type)
 
   -- a field of `this`, or a static one
   abbrev pub field_word : Bool → Id → IExpr
@@ -269,15 +269,15 @@ module _ {C M : Type 0} (reader : Reader C M) where
       call_meant at name (length args) (e.means locals (Some [])) (values_of locals args) (path_of locals e.names [])
   node_meant (ExprNode-F.SuperCall name args) at locals mode =
       over (values_of locals args) (λ args. super_call at name args (super_method reader.view reader.class name (length args)))
-  node_meant (ExprNode-F.New ty args) at locals mode =
-      over (both (read_type reader at ty) (values_of locals args)) (λ parts. created at parts.0 parts.1 parts.0.ty)
-  node_meant (ExprNode-F.NewArray ty sizes pairs) at locals mode =
+  node_meant (ExprNode-F.New type args) at locals mode =
+      over (both (read_type reader at type) (values_of locals args)) (λ parts. created at parts.0 parts.1 parts.0.type)
+  node_meant (ExprNode-F.NewArray type sizes pairs) at locals mode =
       mapped (λ (parts : ReadType C × List IExpr). meant (exprs.NewArray parts.0.tree parts.1 pairs)
-      (of_type (arrays (length sizes + pairs) parts.0.ty)))
-      (both (read_type reader at ty) (values_of locals sizes))
-  node_meant (ExprNode-F.ArrayLit ty items) at locals mode =
-      mapped (λ (parts : ReadType C × List IExpr). meant (exprs.ArrayLit parts.0.tree parts.1) (of_type parts.0.ty))
-      (both (read_type reader at ty) (values_of locals items))
+      (of_type (arrays (length sizes + pairs) parts.0.type)))
+      (both (read_type reader at type) (values_of locals sizes))
+  node_meant (ExprNode-F.ArrayLit type items) at locals mode =
+      mapped (λ (parts : ReadType C × List IExpr). meant (exprs.ArrayLit parts.0.tree parts.1) (of_type parts.0.type))
+      (both (read_type reader at type) (values_of locals items))
   node_meant (ExprNode-F.Braces items) at locals mode =
       mapped (λ items. meant (exprs.Braces items) mixed_value) (values_of locals items)
   node_meant (ExprNode-F.Index e i) at locals mode =
@@ -295,12 +295,12 @@ module _ {C M : Type 0} (reader : Reader C M) where
   node_meant (ExprNode-F.Cond test a b) at locals mode =
       mapped (λ (parts : Meant C × (Meant C × Meant C)). choice parts.0 parts.1.0 parts.1.1)
       (both (alone locals test) (both (alone locals a) (alone locals b)))
-  node_meant (ExprNode-F.Cast ty e) at locals mode =
-      mapped (λ (parts : ReadType C × Meant C). meant (exprs.Cast parts.0.tree parts.1.tree) (of_type parts.0.ty))
-      (both (read_type reader at ty) (alone locals e))
-  node_meant (ExprNode-F.InstanceOf e ty) at locals mode =
+  node_meant (ExprNode-F.Cast type e) at locals mode =
+      mapped (λ (parts : ReadType C × Meant C). meant (exprs.Cast parts.0.tree parts.1.tree) (of_type parts.0.type))
+      (both (read_type reader at type) (alone locals e))
+  node_meant (ExprNode-F.InstanceOf e type) at locals mode =
       mapped (λ (parts : Meant C × ReadType C). meant (exprs.InstanceOf parts.0.tree parts.1.tree) primitive_value)
-      (both (alone locals e) (read_type reader at ty))
+      (both (alone locals e) (read_type reader at type))
   node_meant (ExprNode-F.Paren e) at locals mode = alone locals e
 
   abbrev pub names_of : ExprNode-F (ℕ → Reading C) (Reading C) → Option Dotted

@@ -28,7 +28,7 @@ primitive_tree name =
 -- a type as it is read: as a program keeps it, and as rules on names look at it
 pub record ReadType (C : Type 0) : Type 0 where
   pub tree : IType
-  pub ty : ViewType C
+  pub type : ViewType C
 
 module _ {C M : Type 0} (reader : Reader C M) where
   -- what the name of a type reads as; nothing, where it reads as nothing
@@ -51,8 +51,8 @@ module _ {C M : Type 0} (reader : Reader C M) where
   seen_type = type_in reader.view.classes reader.header
 
   abbrev pub type_or_fault : ℕ → Option IType → ViewType C → Outcome (ReadType C)
-  type_or_fault at None ty = refused unknown_member at
-  type_or_fault at (Some tree) ty = fine (record { tree = tree; ty = ty })
+  type_or_fault at None type = refused unknown_member at
+  type_or_fault at (Some tree) type = fine (record { tree = tree; type = type })
 
   -- A type whose name reads as nothing is an unknown member. `at` is where the innermost expression, statement or member around it begins.
   abbrev pub read_type : ℕ → TypeName → Outcome (ReadType C)

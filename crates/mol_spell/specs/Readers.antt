@@ -16,7 +16,7 @@ pub record Ids (C M : Type 0) : Type 0 where
 
 pub record Parameter (C : Type 0) : Type 0 where
   pub name : Name
-  pub ty : ViewType C
+  pub type : ViewType C
   pub id : Id
 
 -- A place where the parameters of a method or constructor are in scope; a first value of a field has none. `super(..)` is read in a

@@ -112,9 +112,11 @@ mutual
         → Says (exprs.OutsideCallOn name said all_said) (exprs.OutsideCallOn name held all_held)
     in_outside_super_call : {name : Name} {all_said all_held : List IExpr} → SaysAll all_said all_held
         → Says (exprs.OutsideSuperCall name all_said) (exprs.OutsideSuperCall name all_held)
-    in_new_outside : {said_type held_type : IType} {all_said all_held : List IExpr} → SaysType said_type held_type → SaysAll all_said all_held
+    in_new_outside : {said_type held_type : IType} {all_said all_held : List IExpr} → SaysType said_type held_type
+        → SaysAll all_said all_held
         → Says (exprs.NewOutside said_type all_said) (exprs.NewOutside held_type all_held)
-    in_new_array : {said_type held_type : IType} {all_said all_held : List IExpr} {pairs : ℕ} → SaysType said_type held_type → SaysAll all_said all_held
+    in_new_array : {said_type held_type : IType} {all_said all_held : List IExpr} {pairs : ℕ} → SaysType said_type held_type
+        → SaysAll all_said all_held
         → Says (exprs.NewArray said_type all_said pairs) (exprs.NewArray held_type all_held pairs)
     in_array : {said_type held_type : IType} {all_said all_held : List IExpr} → SaysType said_type held_type → SaysAll all_said all_held
         → Says (exprs.ArrayLit said_type all_said) (exprs.ArrayLit held_type all_held)

@@ -56,9 +56,11 @@ mutual
         → SaysStart said held
         → SaysMaybe said_test held_test → SaysAll all_said all_held → SaysBlock said_body held_body
         → SaysStatement (nodes.For said said_test all_said said_body) (nodes.For held held_test all_held held_body)
-    each_of : {is_final : Bool} {said_type held_type : IType} {name : Name} {said held : IExpr} {said_body held_body : IBlock} → SaysType said_type held_type
+    each_of : {is_final : Bool} {said_type held_type : IType} {name : Name} {said held : IExpr} {said_body held_body : IBlock}
+        → SaysType said_type held_type
         → Says said held
-        → SaysBlock said_body held_body → SaysStatement (nodes.Each is_final said_type name said said_body) (nodes.Each is_final held_type name held held_body)
+        → SaysBlock said_body held_body
+        → SaysStatement (nodes.Each is_final said_type name said said_body) (nodes.Each is_final held_type name held held_body)
     return_of : {said held : Option IExpr} → SaysMaybe said held → SaysStatement (nodes.Return said) (nodes.Return held)
     throw_of : {said held : IExpr} → Says said held → SaysStatement (nodes.Throw said) (nodes.Throw held)
     break_of : SaysStatement nodes.Break nodes.Break
@@ -71,7 +73,8 @@ mutual
         → SaysStatement (nodes.SuperOutside all_said) (nodes.SuperOutside all_held)
 
   pub data SaysIf : IIf → IIf → Type 0 where
-    branches : {said held : IExpr} {said_body held_body : IBlock} {said_rest held_rest : IElse} → Says said held → SaysBlock said_body held_body → SaysElse said_rest held_rest
+    branches : {said held : IExpr} {said_body held_body : IBlock} {said_rest held_rest : IElse} → Says said held
+        → SaysBlock said_body held_body → SaysElse said_rest held_rest
         → SaysIf (branch_of said said_body said_rest) (branch_of held held_body held_rest)
 
   pub data SaysElse : IElse → IElse → Type 0 where

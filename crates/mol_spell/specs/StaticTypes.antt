@@ -21,14 +21,14 @@ use Rattle.mol_spell.specs.ReadTrees.{arrays, unary_type, binary_type}
 -- ---- what is named by identity: mixed, where there is no such thing
 
 abbrev pub field_value_in : Option Value → StaticType Id
-field_value_in (Some (values.Value ty init)) = of_type (seen ty)
+field_value_in (Some (values.Value type init)) = of_type (seen type)
 field_value_in value = mixed_value
 
 abbrev pub field_value : Program → Id → StaticType Id
 field_value program field = field_value_in (value_at program field slots.Value)
 
 abbrev pub result_value_in : Option Value → StaticType Id
-result_value_in (Some (values.Result ty)) = of_type (seen ty)
+result_value_in (Some (values.Result type)) = of_type (seen type)
 result_value_in value = mixed_value
 
 abbrev pub result_value : Program → Id → StaticType Id
@@ -73,17 +73,17 @@ module _ (program : Program) (class : Id) (locals : List (ViewType Id)) where
   expr_step (IExpr-F.OutsideCall name args) = outside_value
   expr_step (IExpr-F.OutsideCallOn name e args) = outside_call e name (length args)
   expr_step (IExpr-F.OutsideSuperCall name args) = outside_value
-  expr_step (IExpr-F.NewOutside ty args) = outside_value
-  expr_step (IExpr-F.NewArray ty sizes pairs) = of_type (arrays (length sizes + pairs) (seen ty))
-  expr_step (IExpr-F.ArrayLit ty items) = of_type (seen ty)
+  expr_step (IExpr-F.NewOutside type args) = outside_value
+  expr_step (IExpr-F.NewArray type sizes pairs) = of_type (arrays (length sizes + pairs) (seen type))
+  expr_step (IExpr-F.ArrayLit type items) = of_type (seen type)
   expr_step (IExpr-F.Braces items) = mixed_value
   expr_step (IExpr-F.Index e i) = item e
   expr_step (IExpr-F.Unary op e) = unary_type op e
   expr_step (IExpr-F.Post op e) = e
   expr_step (IExpr-F.Binary op a b) = binary_type op
   expr_step (IExpr-F.Assign op a b) = a
-  expr_step (IExpr-F.Cast ty e) = of_type (seen ty)
-  expr_step (IExpr-F.InstanceOf e ty) = primitive_value
+  expr_step (IExpr-F.Cast type e) = of_type (seen type)
+  expr_step (IExpr-F.InstanceOf e type) = primitive_value
 
   abbrev pub argument_step : Argument-F (StaticType Id) (StaticType Id) → StaticType Id
   argument_step argument = argument.value

@@ -31,7 +31,8 @@ pub fn methods_shared()
     ensures { MethodsShared }
 {}
 
-/// The law of the first fault: of files with different paths at most one fault is the first.
+/// The laws of the first fault: files have none, or one that is the first, and where their paths differ no other is. Beside the
+/// relations stand lists that hold exactly the faults of each file.
 #[tactic(auto, using(crate::proofs::FirstFaults::first_faults))]
 pub fn first_faults()
     ensures { FirstFaults }
