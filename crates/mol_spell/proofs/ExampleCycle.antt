@@ -41,7 +41,7 @@ b_extends = record {
   stands = record { class = class_of (0, a); stands = (0, omega arith, refl); is = refl };
 }
 
--- told of each of them, at the beginning of its file
+-- a fault of each of them, at the beginning of its file
 circle_of_a : Fails circle super_cycle 0 0
 circle_of_a = by_superclass (step a_extends (last_step b_extends))
 

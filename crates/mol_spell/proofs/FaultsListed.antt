@@ -183,15 +183,15 @@ module _ {C M : Type 0} (view : View C M) (ordered : AreOrdered view.classes) (f
       (Decides-or (are_alike a_method first second) (are_alike a_constructor first second) (alike a_method)
       (alike a_constructor)) the_same)))
 
-  abbrev AreTold : Type 0
-  AreTold = (AreRelated view first second × DifferInTypes first second)
+  abbrev AreApart : Type 0
+  AreApart = (AreRelated view first second × DifferInTypes first second)
       ⊎ (AreInOrder first second × (AreAlike a_constructor first second × DifferInTypes first second))
 
-  overloaded : AreTold → AreOverloads view first second
+  overloaded : AreApart → AreOverloads view first second
   overloaded (inl (related, differ)) = AreOverloads.methods related differ
   overloaded (inr (order, (alike, differ))) = AreOverloads.constructors order alike differ
 
-  from_overloaded : AreOverloads view first second → AreTold
+  from_overloaded : AreOverloads view first second → AreApart
   from_overloaded (AreOverloads.methods related differ) = inl (related, differ)
   from_overloaded (AreOverloads.constructors order alike differ) = inr (order, (alike, differ))
 
