@@ -1,0 +1,4 @@
+pub mod Names
+pub mod NumberedClasses
+pub mod Shapes
+pub mod Types
