@@ -153,5 +153,5 @@ item_of_number = expr-read in_desk no_locals (expr_at 0 (node.Index (name 0 "i")
 
 -- ---- `super();` in a constructor: the class extends nothing
 
-no_super : super_if in_desk true 0 [] (super_constructor view 0 0) ≡ refused unknown_member 0
+no_super : super_if in_desk true 0 (Some []) (super_constructor view 0 0) ≡ refused unknown_member 0
 no_super = refl

@@ -6,9 +6,9 @@ use Rattle.jav_tree.specs.declared.expr.ExprNode.TheVariants as node
 use Rattle.jav_tree.specs.declared.stmt.Declarator.{Declarator}
 use Rattle.jav_tree.specs.declared.stmt.Else.TheOpen.{StmtNode-F}
 use Rattle.jav_tree.specs.declared.types.TypeName.TheVariants as types
+use Rattle.jav_view.proofs.WrittenTypes.{type_in-Named}
 use Rattle.mol_spell.specs.FaultKinds.{redeclared, unknown_name, unknown_member}
 use Rattle.mol_spell.specs.Locals.{Locals, no_locals}
-use Rattle.mol_spell.specs.Outcomes.{refused}
 use Rattle.mol_spell.specs.ReadStatements as statements
 use Rattle.mol_spell.specs.ReadStatements.{declaring, read_declarator}
 use Rattle.mol_spell.specs.ReadTrees.{read_expr}
@@ -19,18 +19,21 @@ use Rattle.mol_spell.proofs.ReadEquations.{reads-Name, reads-New, one-read, tree
 abbrev foo : ℕ → Expr
 foo at = name at "foo"
 
--- `new Desk(foo)`: no constructor takes one argument, which is asked only of arguments that mean something
+-- `new Desk(foo)`: no constructor takes one argument, whatever the argument means
 abbrev new_desk : Expr
 new_desk = expr_at 0 (node.New (types.Named (codes "Desk")) (foo 9 ∷ []))
 
-argument_of_creation : (read_expr in_desk no_locals new_desk).faults ≡ record { kind = unknown_name; at = 9 } ∷ []
+argument_of_creation : (read_expr in_desk no_locals new_desk).faults
+    ≡ record { kind = unknown_name; at = 9 } ∷ record { kind = unknown_member; at = 0 } ∷ []
 argument_of_creation = rw (
   reads-New in_desk 0 (types.Named (codes "Desk")) (foo 9 ∷ []) _ (one-read in_desk (foo 9) _ (reads-Name in_desk 9 (codes "foo"))),
   tree-Named in_desk (codes "Desk"),
+  type_in-Named in_desk.view.classes in_desk.header (codes "Desk"),
 ) refl
 
 -- and so for `super(foo);` in a constructor
-argument_of_super : (statements.node_step in_desk (StmtNode-F.SuperInit (foo 6 ∷ [])) 0 no_locals).outcome ≡ refused unknown_name 6
+argument_of_super : (statements.node_step in_desk (StmtNode-F.SuperInit (foo 6 ∷ [])) 0 no_locals).outcome.faults
+    ≡ record { kind = unknown_name; at = 6 } ∷ record { kind = unknown_member; at = 0 } ∷ []
 argument_of_super = rw (reads-Name in_desk 6 (codes "foo")) refl
 
 -- `new Desk.X(foo)`: the type is a part as the argument is, and each tells its own fault
@@ -38,7 +41,7 @@ abbrev new_x : Expr
 new_x = expr_at 0 (node.New (types.Named (codes "Desk.X")) (foo 11 ∷ []))
 
 type_and_argument : (read_expr in_desk no_locals new_x).faults
-    ≡ record { kind = unknown_member; at = 0 } ∷ record { kind = unknown_name; at = 11 } ∷ []
+    ≡ record { kind = unknown_name; at = 11 } ∷ record { kind = unknown_member; at = 0 } ∷ []
 type_and_argument = rw (
   reads-New in_desk 0 (types.Named (codes "Desk.X")) (foo 11 ∷ []) _ (one-read in_desk (foo 11) _ (reads-Name in_desk 11 (codes "foo"))),
   tree-Named in_desk (codes "Desk.X"),

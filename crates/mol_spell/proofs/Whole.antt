@@ -2,7 +2,7 @@
 use Rattle.std.proofs.Common.{◌≡◌, ℕ, List, [], ◌∷◌, ◌++◌, map, Option, Some, None, refl, sym, ◌∙◌, subst}
 use Rattle.std.specs.Prelude.{⊤}
 use Rattle.mol_spell.specs.FaultKinds.{FaultKind}
-use Rattle.mol_spell.specs.Outcomes.{TreeFault, Outcome, fine, refused, with_faults, mapped, over_value, over, both, put_first, all, maybe}
+use Rattle.mol_spell.specs.Outcomes.{TreeFault, Outcome, fine, refused, with_faults, mapped, over_value, over, beside, both, put_first, all, maybe}
 
 -- Where there is no fault there is a value, of which P holds.
 abbrev pub IsWhole : {A : Type 0} → (A → Type 0) → Outcome A → Type 0
@@ -52,6 +52,14 @@ module _ {A B : Type 0} (P : A → Type 0) (Q : B → Type 0) where
         let here = whole (none-first o.faults (make a).faults none) in
         let same : here.0 ≡ a = let both : Some here.0 ≡ Some a = sym here.1 ∙ is in cc in
         each a (subst P same here.2) (none-last o.faults (make a).faults none)
+
+module _ {A B : Type 0} (P : A → Type 0) (Q : B → Type 0) where
+  pub whole-beside : (o : Outcome A) (make : Option A → Outcome B) → IsWhole P o → ((a : A) → P a → IsWhole Q (make (Some a)))
+      → IsWhole Q (beside o make)
+  whole-beside o make whole each none =
+      let here = whole (none-first o.faults (make o.value).faults none) in
+      subst (λ (v : Option A). IsWhole Q (make v)) (sym here.1) (each here.0 here.2)
+      (none-last o.faults (make o.value).faults none)
 
 pub whole-all : {X A : Type 0} (P : A → Type 0) (make : X → Outcome A) → ((x : X) → IsWhole P (make x)) → (xs : List X)
     → IsWhole Any (all (map make xs))

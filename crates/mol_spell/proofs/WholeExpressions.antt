@@ -19,7 +19,7 @@ use Rattle.mol_spell.specs.ReadTypes.{ReadType, read_type}
 use Rattle.mol_values.specs.declared.iexpr.IExpr.{IExpr}
 use Rattle.mol_values.specs.declared.iexpr.IExpr.TheVariants as exprs
 use Rattle.mol_spell.proofs.KnownTypes.{IsRead, type-whole, known-of_type, known-arrays, known-of_literal, known-unary, known-binary, known-common}
-use Rattle.mol_spell.proofs.Whole.{IsWhole, Any, whole-fine, whole-refused, whole-mapped, whole-both, whole-over}
+use Rattle.mol_spell.proofs.Whole.{IsWhole, Any, whole-fine, whole-refused, whole-mapped, whole-both, whole-over, whole-beside}
 use Rattle.mol_spell.proofs.WholeNames.{ReadsKnown, KnownLocals, IsKnown, whole-valued, whole-name_alone, whole-name_before, never_front, never_front_of_call, whole-static_field, whole-field_on, whole-call_here, whole-call_through, whole-call_on, whole-super_call, whole-created, whole-index}
 
 module _ {C M : Type 0} (reader : Reader C M) (known : ReadsKnown reader) where
@@ -117,27 +117,28 @@ module _ {C M : Type 0} (reader : Reader C M) (known : ReadsKnown reader) where
 
   whole-Call : (name : Name) (args : List With) (at : ℕ) → ReadsWhole (node_step reader (ExprNode-F.Call None name (parts args)) at)
   whole-Call name args at = in_either_way (node_step reader (ExprNode-F.Call None name (parts args)) at)
-      (λ locals all mode. whole-over Any (IsKnown reader known) (values_of reader locals (parts args))
-      (λ args. call_here reader at name args (method_from reader.view reader.class name (length args))) (whole-values locals all args)
-      (λ args is. whole-call_here reader known at name args reader.class (length args)))
+      (λ locals all mode. whole-beside Any (IsKnown reader known) (values_of reader locals (parts args))
+      (λ values. call_here reader at name values (method_from reader.view reader.class name (length (parts args))))
+      (whole-values locals all args) (λ values is. whole-call_here reader known at name values reader.class (length (parts args))))
 
   module _ (e : With) (name : Name) (args : List With) (at : ℕ) where
     call-on : (locals : Locals C) → KnownLocals locals → (p : ClassPath C) → path_of reader locals (reading reader e.0).names [] ≡ p
         → IsWhole (IsKnown reader known)
         (call_meant reader at name (length (parts args)) ((reading reader e.0).means locals (Some []))
         (values_of reader locals (parts args)) p)
-    call-on locals all (whole_path class) is = whole-over Any (IsKnown reader known) (values_of reader locals (parts args))
+    call-on locals all (whole_path class) is = whole-beside Any (IsKnown reader known) (values_of reader locals (parts args))
         (λ values. call_through reader at values (method_through reader.view class name (length (parts args))))
         (whole-values locals all args)
         (λ values is. whole-call_through reader known at name values class (length (parts args)))
     call-on locals all front_path is = absurd (never_front_of_call reader known locals all (reading reader e.0).names is)
-    call-on locals all no_path is = whole-over (λ (pair : Meant C × List IExpr). IsKnown reader known pair.0 × Any pair.1)
-        (IsKnown reader known)
-        (both ((reading reader e.0).means locals (Some [])) (values_of reader locals (parts args)))
-        (λ pair. call_on reader at name pair.0 pair.1 (method_on reader.view name (length (parts args)) pair.0.static_type))
-        (whole-both (IsKnown reader known) Any ((reading reader e.0).means locals (Some [])) (values_of reader locals (parts args))
-        (e.1.before_dot locals all [] is) (whole-values locals all args))
-        (λ pair is. whole-call_on reader known at name pair.0 is.0 pair.1 (length (parts args)))
+    call-on locals all no_path is = whole-beside Any (IsKnown reader known) (values_of reader locals (parts args))
+        (λ values. over ((reading reader e.0).means locals (Some []))
+        (λ value. call_on reader at name value values (method_on reader.view name (length (parts args)) value.static_type)))
+        (whole-values locals all args)
+        (λ values are. whole-over (IsKnown reader known) (IsKnown reader known) ((reading reader e.0).means locals (Some []))
+        (λ value. call_on reader at name value (Some values) (method_on reader.view name (length (parts args)) value.static_type))
+        (e.1.before_dot locals all [] is)
+        (λ value is. whole-call_on reader known at name value is values (length (parts args))))
 
     whole-CallOn : ReadsWhole (node_step reader (ExprNode-F.Call (Some (reading reader e.0)) name (parts args)) at)
     whole-CallOn = in_either_way (node_step reader (ExprNode-F.Call (Some (reading reader e.0)) name (parts args)) at)
@@ -145,9 +146,9 @@ module _ {C M : Type 0} (reader : Reader C M) (known : ReadsKnown reader) where
 
   whole-SuperCall : (name : Name) (args : List With) (at : ℕ) → ReadsWhole (node_step reader (ExprNode-F.SuperCall name (parts args)) at)
   whole-SuperCall name args at = in_either_way (node_step reader (ExprNode-F.SuperCall name (parts args)) at)
-      (λ locals all mode. whole-over Any (IsKnown reader known) (values_of reader locals (parts args))
-      (λ args. super_call reader at name args (super_method reader.view reader.class name (length args))) (whole-values locals all args)
-      (λ args is. whole-super_call reader known at name args reader.class (length args)))
+      (λ locals all mode. whole-beside Any (IsKnown reader known) (values_of reader locals (parts args))
+      (λ values. super_call reader at name values (super_method reader.view reader.class name (length (parts args))))
+      (whole-values locals all args) (λ values is. whole-super_call reader known at name values reader.class (length (parts args))))
 
   -- a type, and values
   whole-typed : (type : TypeName) (es : List With) (at : ℕ) (locals : Locals C) → KnownLocals locals
@@ -161,9 +162,12 @@ module _ {C M : Type 0} (reader : Reader C M) (known : ReadsKnown reader) where
 
   whole-New : (type : TypeName) (args : List With) (at : ℕ) → ReadsWhole (node_step reader (ExprNode-F.New type (parts args)) at)
   whole-New type args at = in_either_way (node_step reader (ExprNode-F.New type (parts args)) at)
-      (λ locals all mode. whole-over (IsReadWith type) (IsKnown reader known)
-      (both (read_type reader at type) (values_of reader locals (parts args))) (λ pair. created reader at pair.0 pair.1 pair.0.type)
-      (whole-typed type args at locals all) (λ pair is. whole-created reader known at pair.0 pair.1 pair.0.type))
+      (λ locals all mode. whole-beside Any (IsKnown reader known) (values_of reader locals (parts args))
+      (λ values. over (read_type reader at type) (λ read. created reader at (length (parts args)) read values read.type))
+      (whole-values locals all args)
+      (λ values are. whole-over (IsRead reader type) (IsKnown reader known) (read_type reader at type)
+      (λ read. created reader at (length (parts args)) read (Some values) read.type) (type-whole reader at type)
+      (λ read is. whole-created reader known at (length (parts args)) read values read.type)))
 
   read-known : (type : TypeName) (read : ReadType C) → IsRead reader type read → is_unread read.type ≡ false
   read-known type read is = ap is_unread is.seen ∙ is.known
@@ -203,10 +207,12 @@ module _ {C M : Type 0} (reader : Reader C M) (known : ReadsKnown reader) where
 
   whole-Index : (e i : With) (at : ℕ) → ReadsWhole (node_step reader (ExprNode-F.Index (reading reader e.0) (reading reader i.0)) at)
   whole-Index e i at = in_either_way (node_step reader (ExprNode-F.Index (reading reader e.0) (reading reader i.0)) at)
-      (λ locals all mode. whole-over BothKnown (IsKnown reader known)
-      (both (alone reader locals (reading reader e.0)) (alone reader locals (reading reader i.0)))
-      (λ pair. index_meant reader at pair.0 pair.1 (index_on pair.0.static_type)) (whole-two e i locals all)
-      (λ pair is. whole-index reader known at pair.0 pair.1 is.0))
+      (λ locals all mode. whole-beside (IsKnown reader known) (IsKnown reader known) (alone reader locals (reading reader i.0))
+      (λ index. over (alone reader locals (reading reader e.0)) (λ array. index_meant reader at array index (index_on array.static_type)))
+      (whole-alone locals all i)
+      (λ index known-index. whole-over (IsKnown reader known) (IsKnown reader known) (alone reader locals (reading reader e.0))
+      (λ array. index_meant reader at array (Some index) (index_on array.static_type)) (whole-alone locals all e)
+      (λ array is. whole-index reader known at array index is)))
 
   whole-Unary : (op : Name) (e : With) (at : ℕ) → ReadsWhole (node_step reader (ExprNode-F.Unary op (reading reader e.0)) at)
   whole-Unary op e at = in_either_way (node_step reader (ExprNode-F.Unary op (reading reader e.0)) at)

@@ -258,10 +258,10 @@ module _ {C M : Type 0} (reader : Reader C M) (known : ReadsKnown reader) where
   whole-if P false first second whole more = more
 
   pub whole-call_here : (at : ℕ) (name : Name) (args : List IExpr) (class : C) (arity : ℕ)
-      → IsWhole IsKnown (call_here reader at name args (method_from reader.view class name arity))
+      → IsWhole IsKnown (call_here reader at name (Some args) (method_from reader.view class name arity))
   whole-call_here at name args class arity = by (method_from reader.view class name arity) refl where
     by : (f : Found (ViewDeclaration C M)) → method_from reader.view class name arity ≡ f
-        → IsWhole IsKnown (call_here reader at name args f)
+        → IsWhole IsKnown (call_here reader at name (Some args) f)
     by (found declared) is =
         let stands = (names_stand C M).methods reader.view class name arity declared
         (answered ((names_answered C M).methods reader.view class name arity known.ordered) (found declared) is) in
@@ -271,23 +271,23 @@ module _ {C M : Type 0} (reader : Reader C M) (known : ReadsKnown reader) where
     by not_found is = whole-refused IsKnown unknown_member at
 
   pub whole-call_through : (at : ℕ) (name : Name) (args : List IExpr) (class : C) (arity : ℕ)
-      → IsWhole IsKnown (call_through reader at args (method_through reader.view class name arity))
+      → IsWhole IsKnown (call_through reader at (Some args) (method_through reader.view class name arity))
   whole-call_through at name args class arity = by (method_through reader.view class name arity) refl where
     by : (o : Option (ViewDeclaration C M)) → method_through reader.view class name arity ≡ o
-        → IsWhole IsKnown (call_through reader at args o)
+        → IsWhole IsKnown (call_through reader at (Some args) o)
     by None is = whole-refused IsKnown unknown_member at
     by (Some declared) is = whole-static_call declared ((names_stand C M).static_methods reader.view class name arity declared
         (answered ((names_answered C M).static_methods reader.view class name arity known.ordered) (Some declared) is)).stands args
 
   pub whole-call_on : (at : ℕ) (name : Name) (value : Meant C) → IsKnown value → (args : List IExpr) (arity : ℕ)
-      → IsWhole IsKnown (call_on reader at name value args (method_on reader.view name arity value.static_type))
+      → IsWhole IsKnown (call_on reader at name value (Some args) (method_on reader.view name arity value.static_type))
   whole-call_on at name value is_known args arity = by (method_on reader.view name arity value.static_type) refl where
     reads : (o : OnValue (ViewDeclaration C M)) → method_on reader.view name arity value.static_type ≡ o
         → ReadsMethodOn reader.view name arity value.static_type o
     reads o is = answered ((names_answered C M).methods_on reader.view name arity value.static_type known.ordered) o is
 
     by : (o : OnValue (ViewDeclaration C M)) → method_on reader.view name arity value.static_type ≡ o
-        → IsWhole IsKnown (call_on reader at name value args o)
+        → IsWhole IsKnown (call_on reader at name value (Some args) o)
     by (member declared) is =
         let stands = (names_stand C M).methods_on reader.view name arity value.static_type declared (inl (reads (member declared) is)) in
         whole-if IsKnown value.is_this (own_call reader declared args) _ (whole-own_call declared stands.2.stands args)
@@ -302,10 +302,10 @@ module _ {C M : Type 0} (reader : Reader C M) (known : ReadsKnown reader) where
     by unread_member is = absurd (true≢false (sym (never_unread value.static_type (reads unread_member is)) ∙ is_known))
 
   pub whole-super_call : (at : ℕ) (name : Name) (args : List IExpr) (class : C) (arity : ℕ)
-      → IsWhole IsKnown (super_call reader at name args (super_method reader.view class name arity))
+      → IsWhole IsKnown (super_call reader at name (Some args) (super_method reader.view class name arity))
   whole-super_call at name args class arity = by (super_method reader.view class name arity) refl where
     by : (f : Found (ViewDeclaration C M)) → super_method reader.view class name arity ≡ f
-        → IsWhole IsKnown (super_call reader at name args f)
+        → IsWhole IsKnown (super_call reader at name (Some args) f)
     by (found declared) is =
         let stands = (names_stand C M).super_methods reader.view class name arity declared
         (answered ((names_answered C M).super_methods reader.view class name arity known.ordered) (found declared) is) in
@@ -321,10 +321,10 @@ module _ {C M : Type 0} (reader : Reader C M) (known : ReadsKnown reader) where
   never_outside class arity reads = elim reads [ ]
 
   whole-class_created : (at : ℕ) (class : C) (args : List IExpr) (arity : ℕ)
-      → IsWhole IsKnown (class_created reader at class args (constructor_from reader.view class arity))
+      → IsWhole IsKnown (class_created reader at class (Some args) (constructor_from reader.view class arity))
   whole-class_created at class args arity = by (constructor_from reader.view class arity) refl where
     by : (f : Found (Constructor C M)) → constructor_from reader.view class arity ≡ f
-        → IsWhole IsKnown (class_created reader at class args f)
+        → IsWhole IsKnown (class_created reader at class (Some args) f)
     by (found (declared_constructor declared)) is =
         whole-valued (exprs.New (reader.ids.method_id declared) (arguments_of reader declared args)) (class_value class) refl
     by (found (default_constructor created)) is = whole-valued (exprs.NewDefault (reader.ids.class_id created)) (class_value class) refl
@@ -332,22 +332,22 @@ module _ {C M : Type 0} (reader : Reader C M) (known : ReadsKnown reader) where
         (answered ((names_answered C M).constructors reader.view class arity known.ordered) outside is))
     by not_found is = whole-refused IsKnown unknown_member at
 
-  pub whole-created : (at : ℕ) (type : ReadType C) (args : List IExpr) (seen : ViewType C)
-      → IsWhole IsKnown (created reader at type args seen)
-  whole-created at type args (class_type class) = whole-class_created at class args (length args)
-  whole-created at type args (primitive_type name) = whole-valued (exprs.NewOutside type.tree args) outside_value refl
-  whole-created at type args void_type = whole-valued (exprs.NewOutside type.tree args) outside_value refl
-  whole-created at type args (outside_type text) = whole-valued (exprs.NewOutside type.tree args) outside_value refl
-  whole-created at type args (array_type element) = whole-valued (exprs.NewOutside type.tree args) outside_value refl
-  whole-created at type args unread_type = whole-valued (exprs.NewOutside type.tree args) outside_value refl
+  pub whole-created : (at arity : ℕ) (type : ReadType C) (args : List IExpr) (seen : ViewType C)
+      → IsWhole IsKnown (created reader at arity type (Some args) seen)
+  whole-created at arity type args (class_type class) = whole-class_created at class args arity
+  whole-created at arity type args (primitive_type name) = whole-valued (exprs.NewOutside type.tree args) outside_value refl
+  whole-created at arity type args void_type = whole-valued (exprs.NewOutside type.tree args) outside_value refl
+  whole-created at arity type args (outside_type text) = whole-valued (exprs.NewOutside type.tree args) outside_value refl
+  whole-created at arity type args (array_type element) = whole-valued (exprs.NewOutside type.tree args) outside_value refl
+  whole-created at arity type args unread_type = whole-valued (exprs.NewOutside type.tree args) outside_value refl
 
   pub whole-index : (at : ℕ) (array index : Meant C) → IsKnown array
-      → IsWhole IsKnown (index_meant reader at array index (index_on array.static_type))
+      → IsWhole IsKnown (index_meant reader at array (Some index) (index_on array.static_type))
   whole-index at array index is_known = by array.static_type refl where
-    given : (s : StaticType C) → array.static_type ≡ s → IsWhole IsKnown (index_meant reader at array index indexed)
+    given : (s : StaticType C) → array.static_type ≡ s → IsWhole IsKnown (index_meant reader at array (Some index) indexed)
     given s is = whole-valued (exprs.Index array.tree index.tree) (item array.static_type) (known-item array.static_type is_known)
 
-    by : (s : StaticType C) → array.static_type ≡ s → IsWhole IsKnown (index_meant reader at array index (index_on s))
+    by : (s : StaticType C) → array.static_type ≡ s → IsWhole IsKnown (index_meant reader at array (Some index) (index_on s))
     by (array_value type) is = given (array_value type) is
     by outside_value is = given outside_value is
     by (class_value class) is = whole-refused IsKnown receiver_type at

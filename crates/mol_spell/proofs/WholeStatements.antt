@@ -23,7 +23,7 @@ use Rattle.jav_view.specs.StaticTypes.{is_unread}
 use Rattle.jav_view.specs.Views.{ViewType, Found, found, outside, not_found}
 use Rattle.mol_spell.specs.FaultKinds.{unknown_member}
 use Rattle.mol_spell.specs.Locals.{Local, Locals, no_locals}
-use Rattle.mol_spell.specs.Outcomes.{Outcome, fine, mapped, over, both, put_first}
+use Rattle.mol_spell.specs.Outcomes.{Outcome, fine, mapped, beside, both, put_first}
 use Rattle.mol_spell.specs.Readers.{Reader}
 use Rattle.mol_spell.specs.ReadStatements as statements
 use Rattle.mol_spell.specs.ReadStatements.{ReadOn, ReadsTo, declaring_none, mapped_on, followed_by, then_next, each, in_block, ReadNode, ReadStatement, plain, statement_of, branching, redeclared_faults, declaring, read_exprs, read_maybe, read_declarator, let_of, read_let, super_read, super_if, read_start, read_header, read_each, else_of, read_initial, read_body, block_reading}
@@ -37,7 +37,7 @@ use Rattle.mol_spell.proofs.KnownTypes.{IsRead, type-whole}
 use Rattle.mol_spell.proofs.ReadEquations.{statement}
 use Rattle.mol_spell.proofs.Stands.{in_either}
 use Rattle.jav_view.proofs.Lists.{stands_where, stands_nowhere}
-use Rattle.mol_spell.proofs.Whole.{IsWhole, Any, none-first, none-last, whole-fine, whole-refused, whole-with_faults, whole-any, whole-mapped, whole-both, whole-over, whole-all}
+use Rattle.mol_spell.proofs.Whole.{IsWhole, Any, none-first, none-last, whole-fine, whole-refused, whole-with_faults, whole-any, whole-mapped, whole-both, whole-beside, whole-all}
 use Rattle.mol_spell.proofs.WholeExpressions.{whole-read_expr}
 use Rattle.mol_spell.proofs.WholeNames.{ReadsKnown, KnownLocals}
 
@@ -136,14 +136,14 @@ module _ {C M : Type 0} (reader : Reader C M) (reads : ReadsKnown reader) where
 
   -- ---- statements
 
-  whole-super_read : (at : ℕ) (args : List IExpr) (f : Found (Constructor C M)) → IsWhole Any (super_read reader at args f)
+  whole-super_read : (at : ℕ) (args : List IExpr) (f : Found (Constructor C M)) → IsWhole Any (super_read reader at (Some args) f)
   whole-super_read at args (found (declared_constructor declared)) = whole-fine Any _ tt
   whole-super_read at args (found (default_constructor class)) = whole-fine Any _ tt
   whole-super_read at args outside = whole-fine Any _ tt
   whole-super_read at args not_found = whole-refused Any unknown_member at
 
   whole-super_if : (in_constructor : Bool) (at : ℕ) (args : List IExpr) (f : Found (Constructor C M))
-      → IsWhole Any (super_if reader in_constructor at args f)
+      → IsWhole Any (super_if reader in_constructor at (Some args) f)
   whole-super_if true at args f = whole-super_read at args f
   whole-super_if false at args f = whole-refused Any unknown_member at
 
@@ -257,12 +257,13 @@ module _ {C M : Type 0} (reader : Reader C M) (reads : ReadsKnown reader) where
       (node (stmt.SuperInit args) _ (fold-node-SuperInit (statement reader) node_step args)
       (λ at locals known. on-none locals _ known
       (whole-mapped Any Any plain
-      (over (read_exprs reader locals args)
-      (λ args. super_if reader reader.in_constructor at args (super_constructor reader.view reader.class (length args))))
-      (whole-over Any Any (read_exprs reader locals args)
-      (λ args. super_if reader reader.in_constructor at args (super_constructor reader.view reader.class (length args)))
+      (beside (read_exprs reader locals args)
+      (λ values. super_if reader reader.in_constructor at values (super_constructor reader.view reader.class (length args))))
+      (whole-beside Any Any (read_exprs reader locals args)
+      (λ values. super_if reader reader.in_constructor at values (super_constructor reader.view reader.class (length args)))
       (whole-read_exprs locals known args)
-      (λ args is. whole-super_if reader.in_constructor at args (super_constructor reader.view reader.class (length args)))) (λ n is. tt))))
+      (λ values is. whole-super_if reader.in_constructor at values (super_constructor reader.view reader.class (length args))))
+      (λ n is. tt))))
 
   else_whole : (y : Else-F WithElse WithNode WithBlock WithStmt)
       → ElseWhole (roll-Else (map-Else _ _ _ _ _ _ _ _ (λ p. p.0) (λ p. p.0) (λ p. p.0) (λ p. p.0) y))

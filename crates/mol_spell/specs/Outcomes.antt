@@ -37,6 +37,14 @@ over_value (Some a) faults make = with_faults faults (make a)
 abbrev pub over : {A B : Type 0} → Outcome A → (A → Outcome B) → Outcome B
 over part make = over_value part.value part.faults make
 
+-- nothing is made, and nothing told, where there is no value
+abbrev pub given : {A B : Type 0} → Option A → (A → Outcome B) → Outcome B
+given value make = over_value value [] make
+
+-- Something that asks nothing of a part but to have its value: whatever the part comes to, both tell their faults.
+abbrev pub beside : {A B : Type 0} → Outcome A → (Option A → Outcome B) → Outcome B
+beside part make = with_faults part.faults (make part.value)
+
 -- several parts have a value where each has one
 abbrev pub both : {A B : Type 0} → Outcome A → Outcome B → Outcome (A × B)
 both first second = record { value = option_zip first.value second.value; faults = first.faults ++ second.faults }

@@ -16,7 +16,7 @@ use Rattle.jav_view.specs.Members.{Constructor, declared_constructor, default_co
 use Rattle.jav_view.specs.Views.{ViewType, Found, found, outside, not_found}
 use Rattle.mol_spell.specs.FaultKinds.{redeclared, unknown_member}
 use Rattle.mol_spell.specs.Locals.{Locals, no_locals, declare, at_end_of_block, names_in_scope}
-use Rattle.mol_spell.specs.Outcomes.{TreeFault, Outcome, fine, refused, with_faults, mapped, over, both, put_first, all, maybe}
+use Rattle.mol_spell.specs.Outcomes.{TreeFault, Outcome, fine, refused, with_faults, mapped, given, beside, both, put_first, all, maybe}
 use Rattle.mol_spell.specs.Readers.{Reader, param_names}
 use Rattle.mol_spell.specs.ReadTrees.{with_params, read_expr}
 use Rattle.mol_spell.specs.ReadTypes.{ReadType, read_type, seen_type}
@@ -120,15 +120,15 @@ module _ {C M : Type 0} (reader : Reader C M) where
 
   -- ---- `super(..)` (JLS 8.8.7.1)
 
-  abbrev pub super_read : ℕ → List IExpr → Found (Constructor C M) → Outcome IStmtNode
+  abbrev pub super_read : ℕ → Option (List IExpr) → Found (Constructor C M) → Outcome IStmtNode
   super_read at args (found (declared_constructor declared)) =
-      fine (nodes.Super (reader.ids.method_id declared) (with_params (reader.ids.param_ids declared) args))
+      given args (λ args. fine (nodes.Super (reader.ids.method_id declared) (with_params (reader.ids.param_ids declared) args)))
   super_read at args (found (default_constructor class)) = fine (nodes.SuperDefault (reader.ids.class_id class))
-  super_read at args outside = fine (nodes.SuperOutside args)
+  super_read at args outside = given args (λ args. fine (nodes.SuperOutside args))
   super_read at args not_found = refused unknown_member at
 
-  -- It stands in a constructor alone. Which constructor is meant is asked only where its arguments mean something, as after `new`.
-  abbrev pub super_if : Bool → ℕ → List IExpr → Found (Constructor C M) → Outcome IStmtNode
+  -- It stands in a constructor alone. Which constructor is meant is decided by the number of arguments, as after `new`.
+  abbrev pub super_if : Bool → ℕ → Option (List IExpr) → Found (Constructor C M) → Outcome IStmtNode
   super_if in_constructor at args read = if in_constructor then super_read at args read else refused unknown_member at
 
   -- ---- statements
@@ -183,8 +183,8 @@ module _ {C M : Type 0} (reader : Reader C M) where
   node_step StmtNode-F.Continue at locals = declaring_none locals (fine (plain nodes.Continue))
   node_step StmtNode-F.Empty at locals = declaring_none locals (fine (plain nodes.Empty))
   node_step (StmtNode-F.SuperInit args) at locals = declaring_none locals
-      (mapped plain (over (read_exprs locals args)
-      (λ args. super_if reader.in_constructor at args (super_constructor reader.view reader.class (length args)))))
+      (mapped plain (beside (read_exprs locals args)
+      (λ values. super_if reader.in_constructor at values (super_constructor reader.view reader.class (length args)))))
 
   abbrev pub stmt_step : Stmt-F (ReadsTo C IElse) (ℕ → ReadsTo C ReadNode) (ReadsTo C IBlock) (ReadsTo C ReadStatement)
       → ReadsTo C ReadStatement

@@ -17,7 +17,7 @@ use Rattle.jav_view.specs.Variables.{Variable, local_variable, parameter_variabl
 use Rattle.jav_view.specs.Views.{ViewType, class_type, array_type, ViewField, ViewDeclaration, Found, found, outside, not_found}
 use Rattle.mol_spell.specs.FaultKinds.{unknown_name, unknown_member, static_by_instance, receiver_type}
 use Rattle.mol_spell.specs.Locals.{Locals}
-use Rattle.mol_spell.specs.Outcomes.{Outcome, fine, silent, refused, mapped, over, both, all}
+use Rattle.mol_spell.specs.Outcomes.{Outcome, fine, silent, refused, mapped, over, given, beside, both, all}
 use Rattle.mol_spell.specs.Readers.{Parameter, Reader, place_of}
 use Rattle.mol_spell.specs.ReadTypes.{ReadType, read_type}
 use Rattle.mol_values.specs.declared.iexpr.Argument.{Argument}
@@ -188,62 +188,69 @@ module _ {C M : Type 0} (reader : Reader C M) where
   abbrev pub own_call : ViewDeclaration C M → List IExpr → Outcome (Meant C)
   own_call declared args = valued (exprs.Call (reader.ids.method_id declared) (arguments_of declared args)) (of_type declared.result)
 
+  -- Which method is called is decided by its name and the number of arguments, so that a fault of the call is told whether or not the
+  -- arguments mean something.
+
   -- a call without anything before it is of the own class
-  abbrev pub call_here : ℕ → Name → List IExpr → Found (ViewDeclaration C M) → Outcome (Meant C)
-  call_here at name args (found declared) = if is_static_kind declared.kind then static_call declared args else own_call declared args
-  call_here at name args outside = valued (exprs.OutsideCall name args) outside_value
+  abbrev pub call_here : ℕ → Name → Option (List IExpr) → Found (ViewDeclaration C M) → Outcome (Meant C)
+  call_here at name args (found declared) =
+      given args (λ args. if is_static_kind declared.kind then static_call declared args else own_call declared args)
+  call_here at name args outside = given args (λ args. valued (exprs.OutsideCall name args) outside_value)
   call_here at name args not_found = refused unknown_member at
 
   -- through the name of a class
-  abbrev pub call_through : ℕ → List IExpr → Option (ViewDeclaration C M) → Outcome (Meant C)
+  abbrev pub call_through : ℕ → Option (List IExpr) → Option (ViewDeclaration C M) → Outcome (Meant C)
   call_through at args None = refused unknown_member at
-  call_through at args (Some declared) = static_call declared args
+  call_through at args (Some declared) = given args (static_call declared)
 
   -- of a value
-  abbrev pub call_on : ℕ → Name → Meant C → List IExpr → OnValue (ViewDeclaration C M) → Outcome (Meant C)
-  call_on at name value args (member declared) =
+  abbrev pub call_on : ℕ → Name → Meant C → Option (List IExpr) → OnValue (ViewDeclaration C M) → Outcome (Meant C)
+  call_on at name value args (member declared) = given args (λ args.
       if value.is_this then own_call declared args
-      else valued (exprs.CallOn (reader.ids.method_id declared) value.tree (arguments_of declared args)) (of_type declared.result)
+      else valued (exprs.CallOn (reader.ids.method_id declared) value.tree (arguments_of declared args)) (of_type declared.result))
   call_on at name value args (static_member declared) = refused static_by_instance at
-  call_on at name value args outside_member =
-      valued (exprs.OutsideCallOn name value.tree args) (outside_call value.static_type name (length args))
+  call_on at name value args outside_member = given args (λ args.
+      valued (exprs.OutsideCallOn name value.tree args) (outside_call value.static_type name (length args)))
   call_on at name value args missing_member = refused unknown_member at
   call_on at name value args has_no_members = refused receiver_type at
   call_on at name value args unread_member = silent
 
   abbrev pub call_meant : ℕ → Name → ℕ → Outcome (Meant C) → Outcome (List IExpr) → ClassPath C → Outcome (Meant C)
   call_meant at name arity value args (whole_path class) =
-      over args (λ args. call_through at args (method_through reader.view class name arity))
+      beside args (λ args. call_through at args (method_through reader.view class name arity))
   call_meant at name arity value args front_path = silent
   call_meant at name arity value args no_path =
-      over (both value args) (λ parts. call_on at name parts.0 parts.1 (method_on reader.view name arity parts.0.static_type))
+      beside args (λ args. over value (λ value. call_on at name value args (method_on reader.view name arity value.static_type)))
 
   -- after `super.`: only instance methods
-  abbrev pub super_call : ℕ → Name → List IExpr → Found (ViewDeclaration C M) → Outcome (Meant C)
+  abbrev pub super_call : ℕ → Name → Option (List IExpr) → Found (ViewDeclaration C M) → Outcome (Meant C)
   super_call at name args (found declared) =
       if is_static_kind declared.kind then refused static_by_instance at
-      else valued (exprs.SuperCall (reader.ids.method_id declared) (arguments_of declared args)) (of_type declared.result)
-  super_call at name args outside = valued (exprs.OutsideSuperCall name args) outside_value
+      else given args (λ args.
+      valued (exprs.SuperCall (reader.ids.method_id declared) (arguments_of declared args)) (of_type declared.result))
+  super_call at name args outside = given args (λ args. valued (exprs.OutsideSuperCall name args) outside_value)
   super_call at name args not_found = refused unknown_member at
 
   -- ---- creations (JLS 15.9)
 
-  abbrev pub class_created : ℕ → C → List IExpr → Found (Constructor C M) → Outcome (Meant C)
+  -- the class's constructor with so many parameters
+  abbrev pub class_created : ℕ → C → Option (List IExpr) → Found (Constructor C M) → Outcome (Meant C)
   class_created at class args (found (declared_constructor declared)) =
-      valued (exprs.New (reader.ids.method_id declared) (arguments_of declared args)) (class_value class)
+      given args (λ args. valued (exprs.New (reader.ids.method_id declared) (arguments_of declared args)) (class_value class))
   class_created at class args (found (default_constructor created)) =
       valued (exprs.NewDefault (reader.ids.class_id created)) (class_value class)
   class_created at class args outside = silent
   class_created at class args not_found = refused unknown_member at
 
-  abbrev pub created : ℕ → ReadType C → List IExpr → ViewType C → Outcome (Meant C)
-  created at type args (class_type class) = class_created at class args (constructor_from reader.view class (length args))
-  created at type args seen = valued (exprs.NewOutside type.tree args) outside_value
+  abbrev pub created : ℕ → ℕ → ReadType C → Option (List IExpr) → ViewType C → Outcome (Meant C)
+  created at arity type args (class_type class) = class_created at class args (constructor_from reader.view class arity)
+  created at arity type args seen = given args (λ args. valued (exprs.NewOutside type.tree args) outside_value)
 
   -- ---- indexes (JLS 15.10.3)
 
-  abbrev pub index_meant : ℕ → Meant C → Meant C → OnIndex → Outcome (Meant C)
-  index_meant at array index indexed = valued (exprs.Index array.tree index.tree) (item array.static_type)
+  abbrev pub index_meant : ℕ → Meant C → Option (Meant C) → OnIndex → Outcome (Meant C)
+  index_meant at array index indexed =
+      given index (λ index. valued (exprs.Index array.tree index.tree) (item array.static_type))
   index_meant at array index not_indexed = refused receiver_type at
   index_meant at array index unread_index = silent
 
@@ -255,8 +262,8 @@ module _ {C M : Type 0} (reader : Reader C M) where
 
   -- ---- all expressions
 
-  -- A name in parentheses stands alone (JLS 15.8.5). What an expression means is asked only where all its parts mean something, so that it
-  -- adds no fault to theirs.
+  -- A name in parentheses stands alone (JLS 15.8.5). A member of a value is asked for only where the value means something, so that
+  -- nothing is told of it over a fault of the value.
   abbrev pub node_meant : ExprNode-F (ℕ → Reading C) (Reading C) → ℕ → Locals C → Mode → Outcome (Meant C)
   node_meant (ExprNode-F.Lit text) at locals mode = valued (exprs.Lit text) (of_literal text)
   node_meant ExprNode-F.This at locals mode = fine (record { tree = exprs.This; is_this = true; static_type = class_value reader.class })
@@ -264,13 +271,13 @@ module _ {C M : Type 0} (reader : Reader C M) where
   node_meant (ExprNode-F.Dot e name) at locals mode =
       dot_meant at name mode (e.means locals (before name mode)) (path_of locals e.names (name ∷ followers mode))
   node_meant (ExprNode-F.Call None name args) at locals mode =
-      over (values_of locals args) (λ args. call_here at name args (method_from reader.view reader.class name (length args)))
+      beside (values_of locals args) (λ values. call_here at name values (method_from reader.view reader.class name (length args)))
   node_meant (ExprNode-F.Call (Some e) name args) at locals mode =
       call_meant at name (length args) (e.means locals (Some [])) (values_of locals args) (path_of locals e.names [])
   node_meant (ExprNode-F.SuperCall name args) at locals mode =
-      over (values_of locals args) (λ args. super_call at name args (super_method reader.view reader.class name (length args)))
+      beside (values_of locals args) (λ values. super_call at name values (super_method reader.view reader.class name (length args)))
   node_meant (ExprNode-F.New type args) at locals mode =
-      over (both (read_type reader at type) (values_of locals args)) (λ parts. created at parts.0 parts.1 parts.0.type)
+      beside (values_of locals args) (λ values. over (read_type reader at type) (λ read. created at (length args) read values read.type))
   node_meant (ExprNode-F.NewArray type sizes pairs) at locals mode =
       mapped (λ (parts : ReadType C × List IExpr). meant (exprs.NewArray parts.0.tree parts.1 pairs)
       (of_type (arrays (length sizes + pairs) parts.0.type)))
@@ -281,7 +288,7 @@ module _ {C M : Type 0} (reader : Reader C M) where
   node_meant (ExprNode-F.Braces items) at locals mode =
       mapped (λ items. meant (exprs.Braces items) mixed_value) (values_of locals items)
   node_meant (ExprNode-F.Index e i) at locals mode =
-      over (both (alone locals e) (alone locals i)) (λ parts. index_meant at parts.0 parts.1 (index_on parts.0.static_type))
+      beside (alone locals i) (λ index. over (alone locals e) (λ array. index_meant at array index (index_on array.static_type)))
   node_meant (ExprNode-F.Unary op e) at locals mode =
       mapped (λ (value : Meant C). meant (exprs.Unary op value.tree) (unary_type op value.static_type)) (alone locals e)
   node_meant (ExprNode-F.Post e op) at locals mode =
