@@ -1,0 +1,10 @@
+//! Look-ups by name in a sorted list, where a name may be spelled in parts.
+#![tactic(auto)]
+
+mod entry;
+mod index;
+mod spelling;
+
+pub use entry::Entry;
+pub use index::Index;
+pub use spelling::Spelling;
