@@ -1,0 +1,4 @@
+pub mod Names
+pub mod Shapes
+pub mod Statements
+pub mod TypeForms
