@@ -4,7 +4,7 @@
 # takes for the same files in one run; and then a megabyte, and half of one, of one thing after the other: the ratio of
 # both times, about 2 where the time is linear. Without javac, or without such sources, their part is left out.
 # Usage: bench/parse.sh PROGRAM, where PROGRAM is the built crate parse_count: crates/parse_count/out/parse_count after
-# `rt run` there, or `rt ci`.
+# `rt run` there.
 set -eu
 program=$(readlink -f "$1")
 here=$(dirname "$(readlink -f "$0")")
