@@ -1,0 +1,12 @@
+pub mod BackTypes
+pub mod Counted
+pub mod FirstBad
+pub mod Numerals
+pub mod Prefix
+pub mod Readings
+pub mod Repeats
+pub mod Single
+pub mod SoundTypes
+pub mod Texts
+pub mod TypeTurns
+pub mod WrittenTypes

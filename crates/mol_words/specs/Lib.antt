@@ -1,0 +1,9 @@
+pub mod Words
+pub mod Heads
+pub mod Reader
+pub mod FirstBad
+pub mod Reads
+pub mod TypeHeads
+pub mod Types
+pub mod TypeReader
+pub mod TypeWords
