@@ -1,0 +1,3 @@
+pub mod FirstOfAll
+pub mod KindOrder
+pub mod SameFaults
