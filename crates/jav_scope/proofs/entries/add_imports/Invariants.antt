@@ -1,0 +1,7 @@
+use Rattle.std.proofs.Common.{◌≡◌, ◌++◌, map, take}
+use Rattle.jav_view.specs.UnitViews.{numbered}
+use Rattle.jav_scope.specs.Entries.{import_entry}
+use Rattle.jav_scope.proofs.entries.add_imports.Given as goal
+
+abbrev pub invariant-loop-place : goal.invariant-loop-place
+invariant-loop-place l = l.entries.items ≡ l.fn.entries.items ++ map (import_entry l.unit) (numbered (take l.place l.imports))

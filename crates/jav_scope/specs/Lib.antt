@@ -1,0 +1,5 @@
+pub mod Entries
+pub mod MemberLists
+pub mod Climbs
+pub mod Answers
+pub mod Scopes
