@@ -1,0 +1,16 @@
+pub mod LineData
+pub mod LineCuts
+pub mod Taken
+pub mod ReaderRead
+pub mod ReaderFound
+pub mod ItemTexts
+pub mod HeaderLaws
+pub mod Ascending
+pub mod Examples
+pub mod LastOfTags
+pub mod TextItems
+pub mod TagLists
+pub mod Refused
+pub mod Sizes
+pub mod Digests
+pub mod FormatNumbers
