@@ -1,0 +1,4 @@
+pub mod Found
+pub mod NearestNames
+pub mod ScopeKept
+pub mod Steps
