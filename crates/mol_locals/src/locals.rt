@@ -1,7 +1,7 @@
 //! The locals up to a place in a body.
 ghost use Rattle.std.specs.Prelude.{◌≡◌, OnOk, OnErr, length, take};
 ghost use Rattle.jav_types.specs.Kept.{view_type};
-ghost use Rattle.mol_locals.specs.Scoped.{local_of, locals_of, nearest_local};
+ghost use Rattle.mol_locals.specs.Scoped.{locals_of, nearest_local};
 ghost use Rattle.mol_spell.specs.Locals.{declare, no_locals};
 
 use crate::local::{InScope, Local};
