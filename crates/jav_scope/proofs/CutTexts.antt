@@ -46,9 +46,11 @@ ends-so (byte ∷ front) back = by_test (byte == dot) (cut (front ++ dot ∷ bac
 pub simple_name-whole : (text : Name) → DotsNowhere text → simple_name text ≡ text
 simple_name-whole text none = ap (λ (c : Dotted). last_of c.first c.rest) (cut-whole text none)
 
+pub simple_name-behind : (front back : Name) → simple_name (front ++ dot ∷ back) ≡ simple_name back
+simple_name-behind front back = last-is (simple_name back) (cut (front ++ dot ∷ back)) (ends-so front back)
+
 pub simple_name-after : (text front last : Name) → text ≡ front ++ dot ∷ last → DotsNowhere last → simple_name text ≡ last
-simple_name-after text front last is none =
-    ap simple_name is ∙ last-is (simple_name last) (cut (front ++ dot ∷ last)) (ends-so front last) ∙ simple_name-whole last none
+simple_name-after text front last is none = ap simple_name is ∙ simple_name-behind front last ∙ simple_name-whole last none
 
 -- what stands before and after the last dot of a text, and the lengths of these
 abbrev pub IsLastSplit : Name → Option (Bor (List ℕ) × Bor (List ℕ)) → Type 0

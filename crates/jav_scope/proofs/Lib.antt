@@ -5,7 +5,7 @@ mod TypesFound
 mod AboveClasses
 mod Climbing
 mod ClimbSteps
-mod Numbered
+pub mod Numbered
 mod MembersListed
 mod MemberOwners
 mod FoundMembers

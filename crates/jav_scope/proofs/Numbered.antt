@@ -18,13 +18,13 @@ enumerate-append n (x ∷ xs) ys =
     (enumerate-append (n + 1) xs ys ∙ ap (λ k. enumerate_from (n + 1) xs ++ enumerate_from k ys) (omega arith))
 
 module _ {X : Type 0} (xs : List X) (i : ℕ) (x : X) (within : i < length xs) (is : x ≡ get_or xs i x) where
-  one-more : take (i + 1) xs ≡ take i xs ++ x ∷ []
+  pub one-more : take (i + 1) xs ≡ take i xs ++ x ∷ []
   one-more = take_more xs i x within ∙ ap (λ y. take i xs ++ y ∷ []) (sym is)
 
   so-many : length (take i xs) ≡ i
   so-many = length-take-le i xs (omega (arith, within))
 
-  numbered-more : numbered (take (i + 1) xs) ≡ numbered (take i xs) ++ (i, x) ∷ []
+  pub numbered-more : numbered (take (i + 1) xs) ≡ numbered (take i xs) ++ (i, x) ∷ []
   numbered-more =
       ap numbered one-more ∙ enumerate-append 0 (take i xs) (x ∷ [])
       ∙ ap (λ k. numbered (take i xs) ++ (k, x) ∷ []) (omega (arith, so-many))

@@ -93,8 +93,8 @@ fn import_entry(alloc: Global, unit: u32, place: u32, full: &Text) -> Result<Ent
     })
 }
 
-/// What follows the last dot of a text, or the whole text where it has none.
-fn simple_name(text: &str) -> &str
+/// The simple name of what a text names: what follows its last dot, or the whole text where it has none (JLS 6.2). It takes no memory.
+pub fn simple_name(text: &str) -> &str
     ensures { result.now ≡ simple_name text.now }
 {
     match text.rsplit_once('.') {

@@ -17,6 +17,7 @@ mod superclasses;
 mod type_names;
 mod variables;
 
+pub use entries::simple_name;
 pub use found::{Found, Leftmost, MemberRef, VarRef};
 pub use object::is_object_method;
 pub use scope::Scope;
