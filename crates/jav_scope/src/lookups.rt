@@ -49,6 +49,18 @@ impl Scope<'_> {
         }
     }
 
+    /// What a class extends: a class by its number, something outside, or nothing that can be looked into (JLS 8.1.4); nothing where
+    /// there is no such class. It takes no memory.
+    pub fn superclass_of(&self, class: u32) -> Found<u32>
+        ensures { result ≡ answered (λ number. number) (above (view_in self.now) class) }
+    {
+        let superclasses = self.superclasses.as_slice();
+        match superclasses.get(class as usize) {
+            Some(found) => *found,
+            None => Found::NotFound,
+        }
+    }
+
     /// The default constructor, unless the class declares one.
     fn default_constructor(&self, class: u32) -> Found<Option<MemberRef>>
         ensures { result ≡ answered constructor_ref
@@ -74,24 +86,13 @@ impl Scope<'_> {
             if let Some(entry) = members.first(at, arity, &spelling) {
                 return Found::Found(member_of(entry));
             }
-            match self.above(at) {
+            match self.superclass_of(at) {
                 Found::Found(above) => at = above,
                 Found::Outside => return Found::Outside,
                 Found::NotFound => return Found::NotFound,
             }
         }
         Found::NotFound
-    }
-
-    /// What there is above a class.
-    fn above(&self, class: u32) -> Found<u32>
-        ensures { result ≡ answered (λ number. number) (above (view_in self.now) class) }
-    {
-        let superclasses = self.superclasses.as_slice();
-        match superclasses.get(class as usize) {
-            Some(found) => *found,
-            None => Found::NotFound,
-        }
     }
 }
 

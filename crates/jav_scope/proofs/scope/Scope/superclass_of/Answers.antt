@@ -4,7 +4,7 @@ use Rattle.jav_scope.specs.Entries.{units_of}
 use Rattle.jav_scope.specs.Scopes.{superclasses_in}
 use Rattle.jav_scope.specs.declared.found.Found.{Found}
 use Rattle.jav_scope.proofs.AboveClasses.{above-there, above-nowhere}
-use Rattle.jav_scope.proofs.scope.Scope.above.Goals as goal
+use Rattle.jav_scope.proofs.scope.Scope.superclass_of.Goals as goal
 
 pub returns-in-Some : goal.returns-in-Some
 returns-in-Some c =
