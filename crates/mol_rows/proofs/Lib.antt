@@ -1,0 +1,13 @@
+pub mod PartsRead
+pub mod PartsFound
+pub mod RowsRead
+pub mod RowsFound
+pub mod Examples
+pub mod OrderedWords
+pub mod ItemParams
+pub mod RowLaws
+pub mod RowTable
+pub mod Steps
+pub mod FirstLines
+pub mod LineFaults
+pub mod NextRows
