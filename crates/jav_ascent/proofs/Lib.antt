@@ -1,0 +1,4 @@
+pub mod Walks
+pub mod Crossing
+pub mod Rounds
+pub mod ClassNumbers
