@@ -1,0 +1,18 @@
+//! The entities of what stands in source files, made of the parts that are read of them, and what is told of lists of parameters.
+#![tactic(auto)]
+
+mod class;
+mod declaration;
+mod field;
+mod method;
+mod number;
+mod param;
+mod repeated;
+mod words;
+
+pub use class::class_entity;
+pub use declaration::declaration_entity;
+pub use field::field_entity;
+pub use method::method_entity;
+pub use param::{filler, listed};
+pub use repeated::note_repeated;
