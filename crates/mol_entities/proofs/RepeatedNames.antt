@@ -24,7 +24,8 @@ whole : (params : List Param) (first : Param) → 1 ≤ length params → first 
     → (has_name first.name (rest_of params) || is_repeated (names_of (rest_of params))) ≡ is_repeated (names_of params)
 whole [] first some is = absurd (omega (arith, some))
 whole (param ∷ params) first some is =
-    ap (λ (rest : List Param). has_name first.name rest || is_repeated (names_of rest)) (take_all (length (param ∷ params) - 1) params (omega arith))
+    ap (λ (rest : List Param). has_name first.name rest || is_repeated (names_of rest))
+    (take_all (length (param ∷ params) - 1) params (omega arith))
     ∙ ap (λ (p : Param). has_name p.name params || is_repeated (names_of params)) is
     ∙ ap (λ among. among || is_repeated (names_of params)) (any-named param.name params)
 
@@ -34,7 +35,7 @@ module _ (params : List Param) (first : Param) (some : 1 ≤ length params) (is 
   first-repeated found among holds =
       among ∙ sym holds ∙ ap (λ b. b || is_repeated (names_of (rest_of params))) holds ∙ whole params first some is
 
-  pub later-repeated : (later : Bool) → false ≡ has_name first.name (rest_of params) → later ≡ is_repeated (names_of (rest_of params))
-      → later ≡ is_repeated (names_of params)
+  pub later-repeated : (later : Bool) → false ≡ has_name first.name (rest_of params)
+      → later ≡ is_repeated (names_of (rest_of params)) → later ≡ is_repeated (names_of params)
   later-repeated later fails again =
       again ∙ ap (λ b. b || is_repeated (names_of (rest_of params))) fails ∙ whole params first some is
