@@ -1,0 +1,121 @@
+-- The entities of files without a fault make a program, which is theirs in plain form.
+use Rattle.std.proofs.Common.{◌≡◌, ◌≢◌, ℕ, true, cond, List, option_map, Option, Some, None, Contains, refl, sym, ◌∙◌, ap, subst, true≢false}
+use Rattle.std.specs.Prelude.{IsTrue}
+use Rattle.std.specs.List.{All}
+use Rattle.std.specs.FinMap.{get, get-empty}
+use Rattle.jav_printable.proofs.GrammarTrees.{units_are_printable, units_are_narrow}
+use Rattle.jav_printable.proofs.OneTokens.{sources_have_tokens}
+use Rattle.jav_view.proofs.Lists.{All-from_each}
+use Rattle.jav_view.specs.UnitViews.{MemberKey}
+use Rattle.jav_view.specs.Views.{ViewDeclaration}
+use Rattle.mol_base.specs.Limits.{most, max_items}
+use Rattle.mol_base.specs.Order.{id_cmp}
+use Rattle.mol_base.specs.declared.limit.Which.TheVariants.{Height}
+use Rattle.mol_spell.proofs.FilesStand.{some-same}
+use Rattle.mol_spell.proofs.ValuesFound.{values_there}
+use Rattle.mol_spell.specs.Expected.{kind_of, member_known, known_of, value_of}
+use Rattle.mol_spell.specs.Files.{File, Files, files_view, declaration_at, PlacedMember, member_at}
+use Rattle.mol_spell.specs.Numbering.{Numbered, numbered_class, numbered_member, numbered_method, numbered_param, in_order, id_at}
+use Rattle.mol_spell.specs.ReadAs.{HasNoFault, IsPlain, Holds, SourceText, IsParsed}
+use Rattle.mol_table.specs.Program.{nothing}
+use Rattle.mol_table.specs.Writes.{AreOfKind, AreNew, with_entities}
+use Rattle.mol_table.specs.declared.entity.NewEntity.{NewEntity}
+use Rattle.mol_values.specs.Slots.{kind_of_known, slots_of, has_slot}
+use Rattle.mol_values.specs.declared.cell.Slot.{Slot}
+use Rattle.mol_values.specs.declared.kind.Kind.TheVariants as kinds
+use Rattle.mol_values.specs.declared.known.Known.{Known}
+use Rattle.mol_values.specs.declared.known.Known.TheVariants as knowns
+use Rattle.mol_plain.proofs.AllLive.{knows-living}
+use Rattle.mol_plain.proofs.EntityItems.{all-said}
+use Rattle.mol_plain.proofs.EntityValues.{said-slots}
+use Rattle.mol_plain.proofs.Filled.{added-as, entities-listed, item-of, entities-filled}
+use Rattle.mol_plain.proofs.Gives.{none-some}
+use Rattle.mol_plain.proofs.RulesHold.{rules-hold}
+use Rattle.mol_plain.specs.Entities.{is_added, AreEntities}
+use Rattle.mol_plain.specs.Laws.{IsTree, EntitiesPlain}
+
+module _ (files : Files) (entities : List NewEntity) (no_fault : HasNoFault files) (are : AreEntities files entities) where
+  -- what is added is no parameter
+  member-kind : (key : MemberKey) (known : Known) → known_of files (numbered_member key) ≡ Some known → kind_of_known known ≢ kinds.Param
+  member-kind key known is = by (member_at files key) is where
+    by_declared : (o : Option (ViewDeclaration ℕ MemberKey)) → kind_of_known (member_known files o) ≢ kinds.Param
+    by_declared None of_param = absurd cc
+    by_declared (Some d) of_param = absurd cc
+
+    by : (o : Option PlacedMember) → option_map (λ (at : PlacedMember). member_known files at.declared) o ≡ Some known
+        → kind_of_known known ≢ kinds.Param
+    by None is of_param = none-some is
+    by (Some at) is of_param = by_declared at.declared (ap kind_of_known (some-same is) ∙ of_param)
+
+  method-kind : (key : MemberKey) (known : Known) → known_of files (numbered_method key) ≡ Some known → kind_of_known known ≢ kinds.Param
+  method-kind key known is = by (declaration_at (files_view files) key) is where
+    by : (o : Option (ViewDeclaration ℕ MemberKey))
+        → option_map (λ (d : ViewDeclaration ℕ MemberKey). knowns.Method (kind_of d.kind)) o ≡ Some known
+        → kind_of_known known ≢ kinds.Param
+    by None is of_param = none-some is
+    by (Some d) is of_param = absurd (let both : kinds.Method ≡ kinds.Param = ap kind_of_known (some-same is) ∙ of_param in cc)
+
+  kind-added : (item : Numbered) → is_added item ≡ true → (known : Known) → known_of files item ≡ Some known
+      → kind_of_known known ≢ kinds.Param
+  kind-added (numbered_class number) added known is of_param =
+      absurd (let both : kinds.Class ≡ kinds.Param = ap kind_of_known (some-same is) ∙ of_param in cc)
+  kind-added (numbered_member key) added known is of_param = member-kind key known is of_param
+  kind-added (numbered_method key) added known is of_param = method-kind key known is of_param
+  kind-added (numbered_param key place) added known is of_param = true≢false (sym added)
+
+  of-kind : (entity : NewEntity) → Contains entities entity → AreOfKind entity
+  of-kind entity stands =
+      let of = item-of files no_fault entities are entity stands in
+      let added = added-as files of.0 entity of.2 in
+      subst AreOfKind added.same (record {
+        entity_kind = kind-added of.0 added.added added.known added.is;
+        values = said-slots (value_of files of.0) (slots_of (kind_of_known added.known))
+            (all-said files no_fault of.0 of.1 added.known added.is);
+      })
+
+  entities-new : All IsTree files → AreNew nothing entities
+  entities-new trees = record {
+    kinds = All-from_each AreOfKind entities of-kind;
+    unknown = All-from_each (λ (entity : NewEntity). get nothing.known entity.id ≡ None) entities
+        (λ entity stands. get-empty id_cmp entity.id);
+    differ = are.once;
+    rules = rules-hold files no_fault (with_entities nothing entities) (entities-filled files no_fault entities are) trees;
+  }
+
+  entities-hold : (item : Numbered) → Contains (in_order files) item → (slot : Slot) → IsTrue (has_slot (known_of files item) slot)
+      → Holds (λ said held. held ≡ said) (with_entities nothing entities) (id_at files item) slot (value_of files item slot)
+  entities-hold item stands slot has =
+      let filled = entities-filled files no_fault entities are in
+      let known = values_there.known files item stands in
+      let there = values_there.values files no_fault item stands slot has in
+      record {
+        text = there.0;
+        held = there.0;
+        says = there.1;
+        holds = filled.cells item stands known.0 known.1 slot
+            ∙ ap (λ b. cond b (value_of files item slot) None) (ap (λ o. has_slot o slot) (sym known.1) ∙ has) ∙ there.1;
+        agree = refl;
+      }
+
+  program-plain : IsPlain files (with_entities nothing entities)
+  program-plain = record {
+    no_fault = no_fault;
+    numbered = (entities-filled files no_fault entities are).numbered;
+    holds = entities-hold;
+  }
+
+-- a text that is parsed has a tree of the grammar
+parsed-tree : (text : SourceText) (file : File) → IsParsed text file → IsTree file
+parsed-tree text file is = record {
+  printable = units_are_printable max_items (most Height) file.unit is.tokens (sources_have_tokens text.bytes is.tokens is.lexes) is.parses;
+  narrow = units_are_narrow max_items (most Height) file.unit is.tokens is.parses;
+}
+
+pub entities_plain : EntitiesPlain
+entities_plain = record {
+  trees = parsed-tree;
+  listed = entities-listed;
+  new = λ files entities no_fault trees are. entities-new files entities no_fault are trees;
+  plain = λ files entities no_fault trees are. program-plain files entities no_fault are;
+  living = knows-living;
+}
