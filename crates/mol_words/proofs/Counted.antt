@@ -3,13 +3,9 @@ use Rattle.std.proofs.Common.{◌≡◌, ℕ, ◌+◌, ◌-◌, ◌*◌, ◌^◌
 use Rattle.std.proofs.Common.{refl, sym, ap, ◌∙◌, arith, option_map, if◌then◌else◌, nat_le, nat_lt, ◌==◌, ◌&&◌, ◌||◌}
 use Rattle.std.proofs.lemmas.Bool.{cases_lt}
 use Rattle.std.proofs.lemmas.Bool.Decides.{nat_tests}
-use Rattle.mol_words.specs.Words.{Word, value_from, kept, count_fits, pairs_fit}
+use Rattle.mol_words.specs.Words.{kept, count_fits, pairs_fit}
 use Rattle.mol_words.specs.declared.bounds.Bounds.{Bounds}
 use Rattle.mol_words.specs.declared.bounds.Bounds.TheVariants.{Few, Sizes, Positive, Any}
-
-pub value_cut : (m : ℕ) (ds : Word) (a b : ℕ) → min a m ≡ min b m → min (value_from a ds) m ≡ min (value_from b ds) m
-value_cut m [] a b e = e
-value_cut m (d ∷ ds) a b e = value_cut m ds (a * 10 + (d - 48)) (b * 10 + (d - 48)) (omega arith)
 
 -- the greatest u64 for all that is greater
 abbrev pub cut : ℕ → ℕ

@@ -1,7 +1,9 @@
+pub mod Accepted
 pub mod BackTypes
 pub mod Counted
 pub mod FirstBad
 pub mod Numerals
+pub mod Parsed
 pub mod Prefix
 pub mod Readings
 pub mod Repeats

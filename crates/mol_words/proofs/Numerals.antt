@@ -3,9 +3,10 @@ use Rattle.std.proofs.Common.{◌≡◌, ℕ, zero, suc, ◌+◌, ◌<◌, ◌�
 use Rattle.std.proofs.Common.{Some, refl, sym, ap, ◌∙◌, arith, length, get_or, ◌≢◌, nat_lt, if◌then◌else◌, ◌&&◌}
 use Rattle.std.proofs.lemmas.Bool.Decides.{nat_tests}
 use Rattle.std.proofs.lemmas.List.{length-append}
+use Rattle.std.specs.Char.{is_ascii_digit}
 use Rattle.std.specs.Fmt.{decimal}
 use Rattle.std.proofs.lemmas.Fmt.{decimal_from_appends, length-decimal-le_succ}
-use Rattle.mol_words.specs.Words.{Word, counts, is_digit, all_digits, is_count, value_from, digits_of, numeral}
+use Rattle.mol_words.specs.Words.{Word, counts, all_digits, is_count, value_from, digits_of, numeral}
 
 pub and_left : (a b : Bool) → (a && b) ≡ true → a ≡ true
 and_left true b h = refl
@@ -17,11 +18,11 @@ and_right false b h = absurd cc
 
 count_from : (ds : Word) → all_digits ds ≡ true → 0 < length ds → (get_or ds 0 0 ≡ 48 → length ds ≡ 1) → is_count ds ≡ true
 count_from [] h some zero' = absurd (omega arith)
-count_from (b ∷ []) h some zero' = and_left (is_digit b) true h
+count_from (b ∷ []) h some zero' = and_left (is_ascii_digit b) true h
 count_from (b ∷ c ∷ ds) h some zero' =
-    let first : is_digit b ≡ true = and_left (is_digit b) (all_digits (c ∷ ds)) h in
+    let first : is_ascii_digit b ≡ true = and_left (is_ascii_digit b) (all_digits (c ∷ ds)) h in
     let other : b ≢ 48 = λ e. absurd (omega (arith, zero' e)) in
-    rw (and_right (is_digit b) (all_digits (c ∷ ds)) h) (grind (arith, nat_tests))
+    rw (and_right (is_ascii_digit b) (all_digits (c ∷ ds)) h) (grind (arith, nat_tests))
 
 -- the digits of a number from 1 on
 record Numeral (n : ℕ) (w : Word) : Type 0 where
@@ -30,9 +31,10 @@ record Numeral (n : ℕ) (w : Word) : Type 0 where
   some : 0 < length w
   first : get_or w 0 0 ≢ 48
 
-digits_more : (w : Word) (c : ℕ) → all_digits w ≡ true → is_digit c ≡ true → all_digits (w ++ c ∷ []) ≡ true
+digits_more : (w : Word) (c : ℕ) → all_digits w ≡ true → is_ascii_digit c ≡ true → all_digits (w ++ c ∷ []) ≡ true
 digits_more [] c h k = rw k refl
-digits_more (b ∷ w) c h k = rw (and_left (is_digit b) (all_digits w) h) (digits_more w c (and_right (is_digit b) (all_digits w) h) k)
+digits_more (b ∷ w) c h k =
+    rw (and_left (is_ascii_digit b) (all_digits w) h) (digits_more w c (and_right (is_ascii_digit b) (all_digits w) h) k)
 
 value_more : (w : Word) (c n : ℕ) → value_from n (w ++ c ∷ []) ≡ value_from n w * 10 + (c - 48)
 value_more [] c n = refl
@@ -46,14 +48,14 @@ numeral_by : (n fuel : ℕ) → 1 ≤ n → (b : Bool) → nat_lt n 10 ≡ b →
     → Numeral n (if b then (48 + n) ∷ [] else digits_of fuel (n / 10) ++ (48 + n % 10) ∷ [])
 numeral_by n fuel low true e next =
     let small : n < 10 = grind (arith, nat_tests) in
-    let digit : is_digit (48 + n) ≡ true = grind (arith, nat_tests) in
+    let digit : is_ascii_digit (48 + n) ≡ true = grind (arith, nat_tests) in
     record { digits' = rw digit refl; value = omega arith; some = omega arith; first = λ k. absurd (omega arith) }
 numeral_by n fuel low false e next =
     let large : 10 ≤ n = grind (arith, nat_tests) in
     let h = next (omega arith) in
     let w : Word = digits_of fuel (n / 10) in
     let below : n % 10 < 10 = omega arith in
-    let digit : is_digit (48 + n % 10) ≡ true = grind (arith, nat_tests) in
+    let digit : is_ascii_digit (48 + n % 10) ≡ true = grind (arith, nat_tests) in
     let same = first_more w (48 + n % 10) h.some in
     let v : value_from 0 w ≡ n / 10 = h.value in record {
       digits' = digits_more w (48 + n % 10) h.digits' digit;

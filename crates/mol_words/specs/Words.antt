@@ -1,6 +1,7 @@
 -- Single words of a log's trees: which they are, and what they stand for.
 use Rattle.std.specs.Prelude.{◌≡◌, ℕ, zero, suc, ◌+◌, ◌-◌, ◌*◌, ◌/◌, ◌%◌, Bool, true, false, ◌&&◌, ◌||◌, ◌==◌, nat_le, nat_lt, List, []}
 use Rattle.std.specs.Prelude.{◌∷◌, ◌++◌, Option, Some, None, is_some, if◌then◌else◌}
+use Rattle.std.specs.Char.{is_ascii_digit}
 use Rattle.std.specs.List.{list_all}
 use Rattle.mol_base.specs.Limits.{max_items}
 use Rattle.mol_base.specs.Operators.{is_prefix, is_step, is_assignment, binary_level}
@@ -33,15 +34,12 @@ has_form form.Assignment word = is_assignment word
 
 -- ---- counts: decimal digits without a leading zero, however many
 
-abbrev pub is_digit : ℕ → Bool
-is_digit b = nat_le 48 b && nat_le b 57
-
 abbrev pub all_digits : Word → Bool
-all_digits word = list_all is_digit word
+all_digits word = list_all is_ascii_digit word
 
 abbrev pub is_count : Word → Bool
 is_count [] = false
-is_count (b ∷ []) = is_digit b
+is_count (b ∷ []) = is_ascii_digit b
 is_count (b ∷ c ∷ bs) = nat_le 49 b && nat_le b 57 && all_digits (c ∷ bs)
 
 -- the number that digits spell after others that spell n

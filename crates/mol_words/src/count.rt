@@ -6,16 +6,10 @@ ghost use Rattle.mol_words.specs.Words as spec;
 use crate::bounds::Bounds;
 use mol_base::Id;
 
-fn is_digit(byte: u8) -> bool
-    ensures { result ≡ spec.is_digit byte }
-{
-    48 <= byte && byte <= 57
-}
-
 fn all_digits(word: &[u8]) -> bool
     ensures { result ≡ spec.all_digits word.now }
 {
-    word.iter().all(|byte| is_digit(*byte))
+    word.iter().all(|byte| byte.is_ascii_digit())
 }
 
 /// Whether the word is decimal digits without a leading zero.
@@ -24,22 +18,9 @@ fn is_count(word: &[u8]) -> bool
 {
     match word {
         [] => false,
-        [only] => is_digit(*only),
-        [first, rest @ ..] => 49 <= *first && *first <= 57 && all_digits(rest),
+        [only] => only.is_ascii_digit(),
+        [first, rest @ ..] => b'1' <= *first && *first <= b'9' && all_digits(rest),
     }
-}
-
-/// The number that the digits spell, or the greatest `u64` where it is greater.
-fn value(word: &[u8]) -> u64
-    ensures { result ≡ min (spec.value_from 0 word.now) (2 ^ 64 - 1) }
-{
-    let mut value: u64 = 0;
-    for byte in word {
-        value = value
-            .saturating_mul(10)
-            .saturating_add((*byte as u64).saturating_sub(48));
-    }
-    value
 }
 
 /// The number that the word spells in decimal digits without a leading zero, or the greatest `u64` where it
@@ -48,10 +29,12 @@ fn value(word: &[u8]) -> u64
 pub fn counts(word: &[u8]) -> Option<u64>
     ensures { result ≡ option_map (λ n. min n (2 ^ 64 - 1)) (spec.counts word.now) }
 {
-    if is_count(word) {
-        Some(value(word))
-    } else {
-        None
+    if !is_count(word) {
+        return None;
+    }
+    match std::str::from_utf8(word) {
+        Ok(digits) => Some(digits.parse::<u64>().unwrap_or(u64::MAX)),
+        Err(_) => None,
     }
 }
 
