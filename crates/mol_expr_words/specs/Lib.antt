@@ -1,0 +1,5 @@
+pub mod Scope
+pub mod ExpressionHeads
+pub mod Expressions
+pub mod ExpressionReader
+pub mod ExpressionWords

@@ -1,0 +1,30 @@
+//! Whole lists of words.
+ghost use Rattle.std.specs.Prelude.{[]};
+ghost use Rattle.mol_base.specs.Limits.{most};
+ghost use Rattle.mol_base.specs.declared.limit.Which.TheVariants.{Height};
+ghost use Rattle.mol_expr_words.specs.Expressions.{IsExpr};
+ghost use Rattle.mol_expr_words.specs.declared.expr_role.ExprRole.{ExprRole as Role};
+ghost use Rattle.mol_words.specs.Reads.{IsReading};
+
+use crate::expr_role::ExprRole;
+use crate::read_exprs::expr;
+use crate::scope::Scope;
+use mol_base::Text;
+use mol_values::IExpr;
+use mol_words::{BadWord, Cursor, whole};
+use std::alloc::Global;
+
+/// The greatest height of a body, and of the first value of a field.
+pub const MAX_HEIGHT: u32 = 500;
+
+/// The first value of a field that the words spell: at most 500 high, without local variables. `BadWord::Bad`
+/// names the first word up to which no such expression begins so, or the number of words where they end early;
+/// words after the end of an expression are bad.
+pub fn read_expr(alloc: Global, words: &[Text]) -> Result<IExpr, BadWord>
+    ensures { IsReading (IsExpr Role.First (most Height) []) words.now result }
+{
+    let scope = Scope::new(alloc);
+    let mut cursor = Cursor::new(words);
+    let read = expr(alloc, &mut cursor, ExprRole::First, MAX_HEIGHT, &scope);
+    whole(read, words.len(), cursor.left())
+}
