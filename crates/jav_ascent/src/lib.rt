@@ -1,7 +1,6 @@
 //! Going up from classes: where many steps lead, and which classes have themselves above them.
 #![tactic(auto)]
 
-mod number;
 mod steps;
 mod super_circles;
 

@@ -5,10 +5,9 @@ ghost use Rattle.jav_view.specs.LookUps.{is_in_circle};
 ghost use Rattle.jav_scope.specs.Entries.{view_in};
 ghost use Rattle.jav_ascent.specs.Circles.{link_up, AreReached};
 
-use crate::number::number_of;
 use crate::steps::far;
 use jav_scope::{Found, Scope};
-use mol_base::OutOfMemory;
+use mol_base::{OutOfMemory, number_of};
 use std::alloc::Global;
 
 /// Of each class of source files, of which there are so many, whether following superclasses from it comes back to it (JLS 8.1.4). The

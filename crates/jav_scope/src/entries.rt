@@ -4,11 +4,10 @@ ghost use Rattle.jav_view.specs.DottedNames.{dot, simple_name};
 ghost use Rattle.jav_view.specs.UnitViews.{numbered};
 ghost use Rattle.jav_scope.specs.Entries.{units_of, class_entry, import_entry, import_entries};
 
-use crate::number::number_of;
 use crate::source::SourceUnit;
 use jav_index::Entry;
 use jav_tree::Unit;
-use mol_base::{OutOfMemory, Text};
+use mol_base::{OutOfMemory, Text, number_of};
 use std::alloc::Global;
 
 /// The full names of the classes, each with the number of its file.

@@ -7,7 +7,6 @@ mod leftmost;
 mod lookups;
 mod member_entries;
 mod members;
-mod number;
 mod object;
 mod places;
 mod reading;

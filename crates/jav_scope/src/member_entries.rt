@@ -7,11 +7,10 @@ ghost use Rattle.jav_scope.specs.Entries.{view_in};
 ghost use Rattle.jav_scope.specs.MemberLists.{AreListed, AreAdded, IsAdded, place_entry};
 
 use crate::found::MemberRef;
-use crate::number::number_of;
 use crate::source::SourceUnit;
 use jav_index::Entry;
 use jav_tree::Member;
-use mol_base::{OutOfMemory, Text};
+use mol_base::{OutOfMemory, Text, number_of};
 use std::alloc::Global;
 
 /// The fields by class and name, the methods by class, name and number of parameters, the constructors by class and number of

@@ -7,11 +7,10 @@ ghost use Rattle.jav_scope.specs.Entries.{units_of, classes_in};
 ghost use Rattle.jav_scope.specs.declared.source.SourceUnit.{SourceUnit};
 
 use crate::found::Found;
-use crate::number::number_of;
 use crate::source::SourceUnit;
 use crate::type_names::TypeNames;
 use jav_tree::TypeName;
-use mol_base::OutOfMemory;
+use mol_base::{OutOfMemory, number_of};
 use std::alloc::Global;
 
 /// What each class extends: a class, an outside type or nothing that can be looked into.

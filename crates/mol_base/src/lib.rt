@@ -30,6 +30,7 @@ pub use lines::line_and_column;
 pub use list::List;
 pub use memory::OutOfMemory;
 pub use modifier::{Modified, are_in_order};
+pub use number::number_of;
 pub use operator::{binary_level, is_assignment, is_prefix, is_sign, is_step};
 pub use path::path_of;
 pub use reserved::is_reserved;

@@ -1,8 +1,21 @@
-//! Numbers of identities and stamps.
-ghost use Rattle.std.specs.Prelude.{◌≡◌, ℕ, IfSome, IfNone, Some, Contains};
+//! Numbers: of identities and stamps in decimal, of places in lists.
+ghost use Rattle.std.specs.Prelude.{◌≡◌, ◌≤◌, ◌^◌, ℕ, IfSome, IfNone, IfOk, OnErr, Some, Contains};
 ghost use Rattle.std.specs.Fmt.{decimal};
 ghost use Rattle.std.specs.Str.Parse.{ParsesUnsigned};
 ghost use Rattle.mol_base.specs.Number.{IsNumber, starts_from_one};
+
+use crate::memory::OutOfMemory;
+
+/// A place in a list, or a count of its items, as a number. There is no memory for as many as do not fit.
+pub fn number_of(place: usize) -> Result<u32, OutOfMemory>
+    ensures ok { IfOk result (λ number. number ≡ place) }
+    ensures err { OnErr result (2 ^ 32 ≤ place) }
+{
+    match u32::try_from(place) {
+        Ok(number) => Ok(number),
+        Err(_) => Err(OutOfMemory),
+    }
+}
 
 /// The number that the bytes spell in decimal: 1 to 4,294,967,295, without a leading zero.
 pub fn parse_number(bytes: &[u8]) -> Option<u32>

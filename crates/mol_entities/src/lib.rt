@@ -5,7 +5,6 @@ mod class;
 mod declaration;
 mod field;
 mod method;
-mod number;
 mod param;
 mod repeated;
 mod words;

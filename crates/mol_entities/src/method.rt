@@ -5,9 +5,8 @@ ghost use Rattle.mol_entities.specs.Parts.{method_entity};
 ghost use Rattle.mol_values.specs.declared.kind.Kind.TheVariants as kinds;
 ghost use Rattle.mol_values.specs.declared.value.Value.TheVariants as values;
 
-use crate::number::number_of;
 use jav_scope::is_object_method;
-use mol_base::{Id, List, OutOfMemory, Text};
+use mol_base::{Id, List, OutOfMemory, Text, number_of};
 use mol_table::NewEntity;
 use mol_values::{IType, Kind, MethodKind, Param, Value};
 use std::alloc::Global;

@@ -4,7 +4,6 @@
 mod local;
 mod locals;
 mod nearest;
-mod number;
 mod scope;
 
 pub use local::Local;

@@ -4,9 +4,8 @@ ghost use Rattle.mol_locals.specs.Scoped.{numbers, Stands};
 
 use crate::local::{InScope, Local};
 use crate::nearest::{put, put_back};
-use crate::number::number_of;
 use indexmap::IndexMap;
-use mol_base::{OutOfMemory, Text};
+use mol_base::{OutOfMemory, Text, number_of};
 use std::alloc::Global;
 
 /// A local is declared, and comes into scope by its number, which is the next. For want of memory nothing changes.
