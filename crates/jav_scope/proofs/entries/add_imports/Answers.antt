@@ -9,7 +9,7 @@ pub loop-place-preserved : goal.loop-place-preserved
 loop-place-preserved c =
     let full = c.index-imports-place.result in
     let made : c.in_ok-entry.entry ≡ import_entry c.args.unit (c.loop-place.place, full) =
-    c.in_ok-entry.ensures ∙ ap (λ n. import_entry c.args.unit (n, full)) c.in_ok-number.ensures in
+    c.in_ok-entry.ensures ∙ ap (λ n. import_entry c.args.unit (n, full)) c.in_ok-number.ensures.ok in
     c.in_ok-push.ensures.items ∙ (λ i. c.loop-place.invariant i ++ made i ∷ [])
     ∙ append_assoc c.args.entries.now.items (map (import_entry c.args.unit) (numbered (take c.loop-place.place c.args.imports.now)))
     (import_entry c.args.unit (c.loop-place.place, full) ∷ [])

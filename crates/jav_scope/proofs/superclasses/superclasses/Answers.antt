@@ -15,9 +15,9 @@ loop-place-preserved c =
     let source : SourceUnit = c.index-sources-place.result in
     let there : slice_get sources place ≡ Some source = slice_get_read sources _ place source refl c.loop-place-test.true
     c.index-sources-place.is in
-    let found = c.superclass-found.ensures source (ap (λ n. slice_get c.args.names.now n) c.in_ok-number.ensures
+    let found = c.superclass-found.ensures source (ap (λ n. slice_get c.args.names.now n) c.in_ok-number.ensures.ok
     ∙ ap (λ all. slice_get all place) c.requires ∙ there) in
-    let made = found ∙ (λ i. superclass_answered (superclass_of (classes_in (c.requires i)) (c.in_ok-number.ensures i, source.unit))) in
+    let made = found ∙ (λ i. superclass_answered (superclass_of (classes_in (c.requires i)) (c.in_ok-number.ensures.ok i, source.unit))) in
     c.in_ok-push.ensures.items ∙ (λ i. c.loop-place.invariant i ++ made i ∷ [])
     ∙ sym (units-mapped-more sources place source c.loop-place-test.true c.index-sources-place.is
     (λ (unit : ℕ × Unit). superclass_answered (superclass_of (classes_in sources) unit)))

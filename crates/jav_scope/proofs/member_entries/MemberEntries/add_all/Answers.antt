@@ -17,7 +17,7 @@ loop-place-preserved c = λ classes source.
     let place = c.loop-place.place in
     let member = c.index-members-place.result in
     let added = subst (λ n. AreAdded c.loop-place.self c.add.new.self (option_to_list (field_in classes (c.args.unit, source) (n, member)))
-    (option_to_list (declaration_in classes (c.args.unit, source) (n, member)))) c.in_ok-number.ensures
+    (option_to_list (declaration_in classes (c.args.unit, source) (n, member)))) c.in_ok-number.ensures.ok
     (c.in_ok-add.ensures classes source) in
     let fields = filter_mapped-more members place member c.loop-place-test.true c.index-members-place.is
     (field_in classes (c.args.unit, source)) in

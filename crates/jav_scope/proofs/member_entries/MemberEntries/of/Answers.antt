@@ -13,7 +13,7 @@ loop-place-preserved c =
     let before = numbered (units_of (take c.loop-place.place sources)) in
     let added = subst (λ n. AreAdded c.loop-place.entries c.add_all.new.self (fields_of classes (n, source.unit))
     (declarations_of classes (n, source.unit)))
-    c.in_ok-number.ensures (c.in_ok-add_all.ensures classes source.unit (sym c.items-members.ensures)) in
+    c.in_ok-number.ensures.ok (c.in_ok-add_all.ensures classes source.unit (sym c.items-members.ensures)) in
     let fields = units-flat_mapped-more sources c.loop-place.place source c.loop-place-test.true c.index-sources-place.is
     (fields_of classes) in
     let declarations = units-flat_mapped-more sources c.loop-place.place source c.loop-place-test.true c.index-sources-place.is
