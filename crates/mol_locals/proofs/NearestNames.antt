@@ -4,7 +4,7 @@ use Rattle.std.specs.List.{slice_get, All}
 use Rattle.std.specs.Option.{option_and_then, option_or}
 use Rattle.std.specs.Str.{bytes_eq}
 use Rattle.std.proofs.lemmas.List.Elements.{All-head, All-tail}
-use Rattle.std.proofs.lemmas.Option.{same_Some}
+use Rattle.std.proofs.lemmas.Option.{none-some, same_Some}
 use Rattle.jav_view.specs.DottedNames.{Name}
 use Rattle.jav_view.specs.LookUps.{last_place}
 
@@ -26,6 +26,14 @@ in_range : (names : ℕ → Name) (numbers : List ℕ) (name : Name) → InRange
 in_range names [] name k is = absurd cc
 in_range names (x ∷ xs) name k is =
     in_range-cons x xs (bytes_eq (names x) name) (last_place name (map names xs)) (in_range names xs name) k is
+
+-- Where no number is the nearest of a name, no number has it.
+pub none-near : (names : ℕ → Name) (numbers : List ℕ) (name : Name) → nearest_by names numbers name ≡ None
+    → last_place name (map names numbers) ≡ None
+none-near names numbers name none = by (last_place name (map names numbers)) (in_range names numbers name) none where
+  by : (place : Option ℕ) → InRange numbers place → option_and_then (slice_get numbers) place ≡ None → place ≡ None
+  by None inside none = refl
+  by (Some k) inside none = let found = inside k refl in absurd (none-some found.0 (sym none ∙ found.1))
 
 step : (x : ℕ) (xs : List ℕ) (here : Bool) (place : Option ℕ) → InRange xs place
     → option_and_then (slice_get (x ∷ xs)) (option_or (option_map (λ k. suc k) place) (if here then Some 0 else None))

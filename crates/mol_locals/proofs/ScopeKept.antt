@@ -2,7 +2,7 @@
 use Rattle.std.proofs.Common.{◌≡◌, ◌⊎◌, inl, inr, ℕ, zero, suc, get_or, option_map, ◌<◌, ◌≤◌, Bool, true, false, if◌then◌else◌, List, [], ◌∷◌, ◌++◌, map, length, take, Option, Some, None, refl, sym, ◌∙◌, ap, subst, arith}
 use Rattle.std.specs.List.{slice_get, All}
 use Rattle.std.specs.Map.{lookup}
-use Rattle.std.specs.Option.{option_flatten, option_map_or}
+use Rattle.std.specs.Option.{option_and_then, option_flatten, option_map_or}
 use Rattle.std.specs.Str.{bytes_eq}
 use Rattle.std.proofs.lemmas.List.{length-map, length_push, map_push, take_at, take-append-le}
 use Rattle.std.proofs.lemmas.List.Elements.{All-get_or, All-map, All-nil, All-pop, All-push, All-take, All-weaker}
@@ -10,6 +10,7 @@ use Rattle.std.proofs.lemmas.Option.{get_or_from_slice_get, none-some, same_Some
 use Rattle.std.proofs.lemmas.Bool.{cases_lt}
 use Rattle.std.proofs.lemmas.Slice.Eq.{bytes_eq-Decides}
 use Rattle.jav_view.specs.DottedNames.{Name}
+use Rattle.jav_view.specs.LookUps.{last_place}
 use Rattle.mol_spell.specs.Locals as spell
 use Rattle.mol_locals.specs.Scoped.{local_of, name_in, numbers, found_at, Stands}
 use Rattle.mol_locals.specs.declared.local.InScope.{InScope}
@@ -63,6 +64,17 @@ last-name declared local =
     (ap (λ (locals : List (spell.Local ℕ)). slice_get locals (length declared)) (map_push local_of declared local)
     ∙ ap (λ k. slice_get (map local_of declared ++ local_of local ∷ []) k) (sym (length-map declared local_of))
     ∙ got-last (map local_of declared) (local_of local))
+
+-- the nearest local of a name was declared
+pub nearest-declared : (declared : List Local) (in_scope : List InScope) (name : Name) (n : ℕ)
+    → All (λ l. l.number < length declared) in_scope → nearest_by (name_in declared) (numbers in_scope) name ≡ Some n
+    → n < length declared
+nearest-declared declared in_scope name n inside = by (last_place name (map (name_in declared) (numbers in_scope))) where
+  by : (place : Option ℕ) → option_and_then (slice_get (numbers in_scope)) place ≡ Some n → n < length declared
+  by None none = absurd cc
+  by (Some k) at =
+      all-at (λ n. n < length declared) (numbers in_scope) k n at
+      (All-map (λ n. n < length declared) (λ l. l.number) in_scope inside)
 
 -- ---- steps
 

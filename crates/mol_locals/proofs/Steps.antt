@@ -9,7 +9,7 @@ use Rattle.mol_locals.specs.Scoped.{Scoped, local_of, locals_of, name_in, number
 use Rattle.mol_locals.specs.declared.local.InScope.{InScope}
 use Rattle.mol_locals.specs.declared.local.Local.{Local}
 use Rattle.mol_locals.proofs.NearestNames.{nearest_by}
-use Rattle.mol_locals.proofs.ScopeKept.{declared-stands, entered-stands, last-name, name-at, left-stands, last-inside, last-known}
+use Rattle.mol_locals.proofs.ScopeKept.{declared-stands, nearest-declared, entered-stands, last-name, name-at, left-stands, last-inside, last-known}
 
 -- what stands at a name is the nearest local of it
 pub nearest-is : (declared : List Local) (in_scope : List InScope) (nearest : List (Name × Option ℕ)) (name : Name) (scoped : Scoped)
@@ -17,6 +17,14 @@ pub nearest-is : (declared : List Local) (in_scope : List InScope) (nearest : Li
     → found_at nearest name ≡ nearest_local (locals_of scoped) name
 nearest-is declared in_scope nearest name scoped stands is =
     stands.found name ∙ ap (λ (scoped : Scoped). nearest_local (locals_of scoped) name) is
+
+-- the nearest local of a name was declared
+pub nearest-inside : (declared : List Local) (in_scope : List InScope) (nearest : List (Name × Option ℕ)) (name : Name) (scoped : Scoped)
+    → Stands declared in_scope nearest → ◌≡◌ {A = Scoped} (record { declared = declared; in_scope = numbers in_scope }) scoped
+    → (n : ℕ) → nearest_local (locals_of scoped) name ≡ Some n → n < length scoped.declared
+nearest-inside declared in_scope nearest name scoped stands is n found =
+    subst (λ (scoped : Scoped). nearest_local (locals_of scoped) name ≡ Some n → n < length scoped.declared) is
+    (nearest-declared declared in_scope name n stands.inside) found
 
 -- ---- a local more
 

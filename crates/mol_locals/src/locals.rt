@@ -1,5 +1,5 @@
 //! The locals up to a place in a body.
-ghost use Rattle.std.specs.Prelude.{◌≡◌, OnOk, OnErr, length, take};
+ghost use Rattle.std.specs.Prelude.{◌≡◌, ◌<◌, ℕ, Some, OnOk, OnErr, length, take};
 ghost use Rattle.jav_types.specs.Kept.{view_type};
 ghost use Rattle.mol_locals.specs.Scoped.{locals_of, nearest_local};
 ghost use Rattle.mol_spell.specs.Locals.{declare, no_locals};
@@ -56,14 +56,16 @@ impl Locals {
         self.declared.as_slice()
     }
 
-    /// The number of the nearest local in scope of a name (JLS 6.4.1). It takes no memory, and about the same time however many there are.
+    /// The number of the nearest local in scope of a name (JLS 6.4.1): one of those that were declared. It takes no memory, and about the same time however many there are.
     pub fn find(&self, name: &Text) -> Option<u32>
-        ensures { result ≡ nearest_local (locals_of self.now) name.now }
+        ensures is { result ≡ nearest_local (locals_of self.now) name.now }
+        ensures inside { (n : ℕ) → result ≡ Some n → n < length self.now.declared }
     {
         found_at(&self.nearest, name)
     }
 
-    /// A local is declared: it has the next number, and is in scope from here on (JLS 6.3). For want of memory nothing changes.
+    /// A local is declared: it has the next number, and is in scope from here on (JLS 6.3). For want of memory, or of a number
+    /// below 2^32, nothing changes.
     pub fn declare(&mut self, alloc: Global, name: &Text, ty: SeenType) -> Result<(), OutOfMemory>
         ensures ok { OnOk result (locals_of self.new
             ≡ declare (record { name = name.now; type = view_type ty }) (locals_of self.old)) }
