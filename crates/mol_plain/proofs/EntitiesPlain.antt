@@ -1,4 +1,4 @@
--- The entities of files without a fault make a program, which is theirs in plain form.
+-- The entities of files without a fault make a program, which is theirs in plain form, and as which they read.
 use Rattle.std.proofs.Common.{◌≡◌, ◌≢◌, ℕ, true, cond, List, option_map, Option, Some, None, Contains, refl, sym, ◌∙◌, ap, subst, true≢false}
 use Rattle.std.specs.Prelude.{IsTrue}
 use Rattle.std.specs.List.{All}
@@ -12,11 +12,12 @@ use Rattle.mol_base.specs.Limits.{most, max_items}
 use Rattle.mol_base.specs.Order.{id_cmp}
 use Rattle.mol_base.specs.declared.limit.Which.TheVariants.{Height}
 use Rattle.mol_spell.proofs.FilesStand.{some-same}
+use Rattle.mol_spell.proofs.OneMethod.{methods_shared}
 use Rattle.mol_spell.proofs.ValuesFound.{values_there}
 use Rattle.mol_spell.specs.Expected.{kind_of, member_known, known_of, value_of}
 use Rattle.mol_spell.specs.Files.{File, Files, files_view, declaration_at, PlacedMember, member_at}
 use Rattle.mol_spell.specs.Numbering.{Numbered, numbered_class, numbered_member, numbered_method, numbered_param, in_order, id_at}
-use Rattle.mol_spell.specs.ReadAs.{HasNoFault, IsPlain, Holds, SourceText, IsParsed}
+use Rattle.mol_spell.specs.ReadAs.{FilesReadAs, HasNoFault, HoldsWhatIsSaid, IsPlain, Holds, SaysValue, equal_value, SourceText, IsParsed}
 use Rattle.mol_table.specs.Program.{nothing}
 use Rattle.mol_table.specs.Writes.{AreOfKind, AreNew, with_entities}
 use Rattle.mol_table.specs.declared.entity.NewEntity.{NewEntity}
@@ -26,6 +27,7 @@ use Rattle.mol_values.specs.declared.kind.Kind.TheVariants as kinds
 use Rattle.mol_values.specs.declared.known.Known.{Known}
 use Rattle.mol_values.specs.declared.known.Known.TheVariants as knowns
 use Rattle.mol_plain.proofs.AllLive.{knows-living}
+use Rattle.mol_plain.proofs.CellsTidied.{tidied-program}
 use Rattle.mol_plain.proofs.EntityItems.{all-said}
 use Rattle.mol_plain.proofs.EntityValues.{said-slots}
 use Rattle.mol_plain.proofs.Filled.{added-as, entities-listed, item-of, entities-filled}
@@ -104,6 +106,26 @@ module _ (files : Files) (entities : List NewEntity) (no_fault : HasNoFault file
     holds = entities-hold;
   }
 
+  -- a program in plain form says what the files say
+  entities-said : HoldsWhatIsSaid files (with_entities nothing entities)
+  entities-said item stands slot has = let plain = entities-hold item stands slot has in record {
+    text = plain.text;
+    held = plain.held;
+    says = plain.says;
+    holds = plain.holds;
+    agree = subst (SaysValue plain.text) (sym plain.agree) equal_value;
+  }
+
+  files-read : All IsTree files → FilesReadAs files (with_entities nothing entities)
+  files-read trees = record {
+    no_fault = no_fault;
+    numbered = program-plain.numbered;
+    holds = entities-said;
+    methods = methods_shared.by_name files (with_entities nothing entities) no_fault entities-said;
+    tidied = tidied-program files no_fault (with_entities nothing entities) (entities-filled files no_fault entities are) trees;
+    all_live = knows-living files (with_entities nothing entities) program-plain;
+  }
+
 -- a text that is parsed has a tree of the grammar
 parsed-tree : (text : SourceText) (file : File) → IsParsed text file → IsTree file
 parsed-tree text file is = record {
@@ -117,5 +139,6 @@ entities_plain = record {
   listed = entities-listed;
   new = λ files entities no_fault trees are. entities-new files entities no_fault are trees;
   plain = λ files entities no_fault trees are. program-plain files entities no_fault are;
+  read = λ files entities no_fault trees are. files-read files entities no_fault are trees;
   living = knows-living;
 }

@@ -24,4 +24,13 @@ pub mod MethodCellsRight
 pub mod ItemsRight
 pub mod RulesHold
 pub mod AllLive
+pub mod ArgumentsTidied
+pub mod TreesTidied
+pub mod NamesTidied
+pub mod ExpressionsTidied
+pub mod BlocksTidied
+pub mod StatementsTidied
+pub mod BareClasses
+pub mod ReaderTidied
+pub mod CellsTidied
 pub mod EntitiesPlain

@@ -199,7 +199,7 @@ module _ (files : Files) (no_fault : HasNoFault files) (program : Program) (fill
       (param-stands files key method place.0 place.1) (knowns.Param own) refl in
       ap (λ k. fills own a_listed_param k) (sym (ap (get program.known) place.2) ∙ known) ∙ same_id-own own
 
-  ids-differ : differ (method_ids files key method) ≡ true
+  pub ids-differ : differ (method_ids files key method) ≡ true
   ids-differ = differ-mapped (λ (place : ℕ). id_at files (numbered_param key place)) (below method.declared.arity)
       (once-range 0 method.declared.arity)
       (λ x y in_x in_y same. param-place (numbers_apart.apart files (numbered_param key x) (numbered_param key y)

@@ -173,6 +173,7 @@ module _ (files : Files) (no_fault : HasNoFault files) where
   pub record TopmostIs (declared : Declaration) : Type 0 where
     pub kind : kind_of (topmost_of declared).kind ≡ kind_of declared.kind
     pub single : declared.kind ≢ instance_method → topmost_of declared ≡ declared
+    pub takes : (topmost_of declared).arity ≡ declared.arity
     pub stands : Contains (files_view files).declarations (topmost_of declared)
 
   not-instance : (kind : DeclarationKind) → kind ≢ static_method → kind ≢ constructor → kind ≡ instance_method
@@ -192,7 +193,12 @@ module _ (files : Files) (no_fault : HasNoFault files) where
             → (top.owner ≡ declared.owner) ⊎ IsAncestor (files_view files) declared.owner top.owner → TopmostIs declared
         by stands-top method-top named many (inl one) =
             let same = same-class declared top stands stands-top method method-top named many one in
-            record { kind = ap (λ (d : Declaration). kind_of d.kind) same; single = λ differs. same; stands = stands-top }
+            record {
+              kind = ap (λ (d : Declaration). kind_of d.kind) same;
+              single = λ differs. same;
+              takes = many;
+              stands = stands-top;
+            }
         by stands-top method-top named many (inr above) =
             let row = method-row declared stands method in
             let other = method-row top stands-top method-top in
@@ -202,6 +208,7 @@ module _ (files : Files) (no_fault : HasNoFault files) where
             record {
               kind = ap kind_of (is-top ∙ sym is);
               single = λ differs. absurd (differs is);
+              takes = many;
               stands = stands-top;
             }
 
@@ -212,6 +219,7 @@ module _ (files : Files) (no_fault : HasNoFault files) where
       record {
         kind = ap (λ (d : Declaration). kind_of d.kind) same;
         single = λ differs. same;
+        takes = ap (λ (d : Declaration). d.arity) same;
         stands = subst (Contains (files_view files).declarations) (sym same) stands;
       }
 

@@ -72,7 +72,7 @@ module _ (files : Files) (no_fault : HasNoFault files) (program : Program) (fill
       → get program.known (id_at files (numbered_class number)) ≡ Some knowns.Class
   class-known number file is = known-item (numbered_class number) (class-in_order number file is) knowns.Class refl
 
-  has-file : (class : ℕ) → HasClass (files_view files).classes class → (file : File) × HasFile files class file
+  pub has-file : (class : ℕ) → HasClass (files_view files).classes class → (file : File) × HasFile files class file
   has-file class has =
       let of = from_map class_of (numbered (units files)) has.class has.stands in
       let number : of.0.0 ≡ class = ap (λ (c : _). c.key) of.2 ∙ has.is in
@@ -130,7 +130,7 @@ module _ (files : Files) (no_fault : HasNoFault files) (program : Program) (fill
 
   -- ---- methods
 
-  top-itself : (declared : Declaration) → Contains (files_view files).declarations declared
+  pub top-itself : (declared : Declaration) → Contains (files_view files).declarations declared
       → topmost (files_view files) (topmost (files_view files) declared) ≡ topmost (files_view files) declared
   top-itself declared stands = by declared.kind refl where
     of-method : declared.kind ≢ constructor

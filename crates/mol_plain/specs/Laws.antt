@@ -5,7 +5,7 @@ use Rattle.jav_tree.specs.Printable.{IsPrintable}
 use Rattle.jav_tree.specs.Widths.{unit_width}
 use Rattle.mol_plain.specs.Entities.{plain_entities, AreEntities}
 use Rattle.mol_spell.specs.Files.{File, Files}
-use Rattle.mol_spell.specs.ReadAs.{HasNoFault, IsPlain, KnowsLivingAlone, SourceText, IsParsed}
+use Rattle.mol_spell.specs.ReadAs.{FilesReadAs, HasNoFault, IsPlain, KnowsLivingAlone, SourceText, IsParsed}
 use Rattle.mol_table.specs.Program.{Program, nothing}
 use Rattle.mol_table.specs.Writes.{AreNew, with_entities}
 use Rattle.mol_table.specs.declared.entity.NewEntity.{NewEntity}
@@ -17,7 +17,8 @@ pub record IsTree (file : File) : Type 0 where
   pub narrow : unit_width file.unit ≤ max_items
 
 -- A text that is parsed has such a tree. Where files of such trees have no fault, their entities may be added together to the program
--- that knows nothing; and what that leaves is in plain form. A program in plain form knows what lives, and nothing else.
+-- that knows nothing. What that leaves is in plain form, and the files read as it. A program in plain form knows what lives, and nothing
+-- else.
 pub record EntitiesPlain : Type 0 where
   pub trees : (text : SourceText) (file : File) → IsParsed text file → IsTree file
   pub listed : (files : Files) → AreEntities files (plain_entities files)
@@ -25,4 +26,6 @@ pub record EntitiesPlain : Type 0 where
       → AreNew nothing entities
   pub plain : (files : Files) (entities : List NewEntity) → HasNoFault files → All IsTree files → AreEntities files entities
       → IsPlain files (with_entities nothing entities)
+  pub read : (files : Files) (entities : List NewEntity) → HasNoFault files → All IsTree files → AreEntities files entities
+      → FilesReadAs files (with_entities nothing entities)
   pub living : (files : Files) (program : Program) → IsPlain files program → KnowsLivingAlone program

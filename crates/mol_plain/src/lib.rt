@@ -6,7 +6,8 @@
 
 ghost use Rattle.mol_plain.specs.Laws.{EntitiesPlain};
 
-/// The law of entities: what files without a fault add makes a program, which is theirs in plain form.
+/// The law of entities: what files without a fault add makes a program, which is theirs in plain form, and as which
+/// they read.
 #[tactic(auto, using(crate::proofs::EntitiesPlain::entities_plain))]
 pub fn entities_plain()
     ensures { EntitiesPlain }
