@@ -14,6 +14,7 @@ pub mod FormsBack
 pub mod NamesBack
 pub mod NodeEquations
 pub mod OperatorsBack
+pub mod OwnView
 pub mod PartsBack
 pub mod SetItems
 pub mod SpelledEquations

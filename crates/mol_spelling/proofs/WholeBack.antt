@@ -7,7 +7,7 @@ use Rattle.jav_view.specs.OnValues.{StaticType, outside_value}
 use Rattle.mol_base.specs.declared.ident.Id.{Id}
 use Rattle.mol_references.specs.References.{local_target, param_target, outside_target}
 use Rattle.mol_spell.proofs.ReadEquations.{reads-Lit, reads-This}
-use Rattle.mol_spell.specs.Locals.{Locals, local_name}
+use Rattle.mol_spell.specs.Locals.{Locals}
 use Rattle.mol_spell.specs.Outcomes.{Outcome}
 use Rattle.mol_spell.specs.Readers.{Reader}
 use Rattle.mol_spell.specs.ReadTrees.{Mode, Reading, reading}
@@ -17,10 +17,11 @@ use Rattle.mol_values.specs.declared.iexpr.IExpr.{IExpr}
 use Rattle.mol_values.specs.declared.iexpr.IExpr.TheFolds.{fold-roll-Argument, ind-IExpr, map-IExpr}
 use Rattle.mol_values.specs.declared.iexpr.IExpr.TheOpen.{IExpr-F, Argument-F}
 use Rattle.mol_values.specs.declared.iexpr.IExpr.TheViews.{roll-IExpr, roll-Argument}
+use Rattle.mol_spelling.proofs.OwnView.{seen-itself}
 use Rattle.mol_spelling.proofs.NamesBack.{never-this, text-of-name, name-back}
 use Rattle.mol_spelling.proofs.ValuesBack.{nameless-apart, name-apart}
 use Rattle.mol_spelling.specs.ReadBack.{SeesProgram, KeptArgument, kept_step, kept_argument_step, is_kept, AreAnswered, IsReadBack, ReadsBack}
-use Rattle.mol_spelling.specs.SpelledExpressions.{SpelledExpr, made, own_form, static_form, call_form, static_call_form, param_name, importable_names, expr_step, argument_step, spelled_expr}
+use Rattle.mol_spelling.specs.SpelledExpressions.{SpelledExpr, made, own_form, static_form, call_form, static_call_form, param_name, local_text, importable_names, expr_step, argument_step, spelled_expr}
 use Rattle.mol_spelling.specs.Writers.{Writer, outside_import}
 use Rattle.mol_spelling.proofs.FormsBack.{field-layer, outside-field-layer, call-layer, call-on-layer, outside-call-layer, outside-call-on-layer, one-name, one-apart, field-apart}
 use Rattle.mol_spelling.proofs.OperatorsBack.{unary-layer, post-layer, binary-layer, assign-layer, cond-layer, braces-layer, index-layer, super-layer, outside-super-layer}
@@ -114,9 +115,9 @@ module _ (writer : Writer) (sees : SeesProgram writer) (locals : Locals Id) wher
   layer (IExpr-F.Lit text) = from (IExpr-F.Lit text) (exprs.Lit text) (exprs.rolls-Lit text) (lit-layer text)
   layer IExpr-F.This = from IExpr-F.This exprs.This exprs.rolls-This this-layer
   layer (IExpr-F.Local number) = from (IExpr-F.Local number) (exprs.Local number) (exprs.rolls-Local number) (
-    λ are. name-apart writer sees locals (local_name locals number),
+    λ are. name-apart writer sees locals (local_text locals number),
     never-this,
-    λ mode are all. name-back writer sees locals (local_name locals number) mode (local_target number) (exprs.Local number) _ all.0
+    λ mode are all. name-back writer sees locals (local_text locals number) mode (local_target number) (exprs.Local number) _ all.0
         (refl, refl) tt,
   )
   layer (IExpr-F.Param id) = from (IExpr-F.Param id) (exprs.Param id) (exprs.rolls-Param id) (
@@ -237,4 +238,4 @@ module _ (writer : Writer) (sees : SeesProgram writer) (locals : Locals Id) wher
       record { said = back.0; reads = back.1; says = back.2 }
 
 pub reads_back : ReadsBack
-reads_back = record { expressions = is-back }
+reads_back = record { in_files = seen-itself; expressions = is-back }

@@ -2,8 +2,10 @@
 use Rattle.std.specs.Prelude.{◌≡◌, ℕ, Bool, true, false, IsTrue, ◌&&◌, List, [], ◌∷◌, map, Some, Contains, slice_get}
 use Rattle.std.specs.List.{AllByRecursion, list_all}
 use Rattle.mol_base.specs.declared.ident.Id.{Id}
-use Rattle.mol_table.specs.Program.{same_id, params_at}
+use Rattle.mol_table.specs.Program.{Program, same_id, params_at}
+use Rattle.mol_table.specs.Rules.{IsProgram}
 use Rattle.mol_table.specs.TokenForms.{is_empty}
+use Rattle.mol_values.specs.declared.cell.Cell.{Cell}
 use Rattle.mol_values.specs.declared.iexpr.IExpr.{IExpr, fold-IExpr}
 use Rattle.mol_values.specs.declared.iexpr.IExpr.TheOpen.{IExpr-F, Argument-F}
 use Rattle.mol_values.specs.declared.itype.IType.{IType, fold-IType}
@@ -20,6 +22,7 @@ use Rattle.mol_spell.specs.ReadTrees.{Mode, reading}
 use Rattle.mol_spell.specs.Says.{Says, no_more}
 use Rattle.mol_spell.specs.StaticTypes.{field_value, result_value, param_value}
 use Rattle.mol_spelling.specs.Answers.{answered}
+use Rattle.mol_spelling.specs.SimpleNames.{unit_writer}
 use Rattle.mol_spelling.specs.SpelledExpressions.{importable_names, spelled_expr}
 use Rattle.mol_spelling.specs.Writers.{Writer, outside_import, text_of, Reference}
 
@@ -128,6 +131,8 @@ pub record IsReadBack (writer : Writer) (locals : Locals Id) (e : IExpr) (mode :
   pub says : Says said e
 
 pub record ReadsBack : Type 0 where
+  -- in the file of a class, wherever a cell prints
+  pub in_files : (program : Program) → IsProgram program → (class : Id) (at : Cell) → SeesProgram (unit_writer program class at)
   pub expressions : (writer : Writer) → SeesProgram writer → (locals : Locals Id) (e : IExpr) (mode : Mode)
       → IsTrue (is_kept writer locals e) → AreAnswered writer ((spelled_expr writer locals e).references mode)
       → IsReadBack writer locals e mode

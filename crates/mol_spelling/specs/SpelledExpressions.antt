@@ -1,5 +1,5 @@
 -- Expressions of a program as they are written (JLS 15): each name by what it is the name of, and members by the rules on names.
-use Rattle.std.specs.Prelude.{ℕ, Bool, true, false, List, [], ◌∷◌, ◌++◌, map, length, Option, Some, None, if◌then◌else◌, codes}
+use Rattle.std.specs.Prelude.{ℕ, Bool, true, false, List, [], ◌∷◌, ◌++◌, map, length, Option, Some, None, if◌then◌else◌, slice_get, codes}
 use Rattle.std.specs.List.{flat_map}
 use Rattle.std.specs.Option.{option_map_or}
 use Rattle.mol_base.specs.declared.ident.Id.{Id}
@@ -20,7 +20,7 @@ use Rattle.jav_view.specs.LookUps.{variable, method_from}
 use Rattle.jav_view.specs.OnValues.{StaticType, class_value}
 use Rattle.jav_view.specs.Variables.{Variable, local_variable, parameter_variable, field_variable}
 use Rattle.jav_view.specs.Views.{ViewDeclaration, Found, found, outside, not_found}
-use Rattle.mol_spell.specs.Locals.{Local, Locals, local_name}
+use Rattle.mol_spell.specs.Locals.{Local, Locals}
 use Rattle.mol_spell.specs.Readers.{Reader, place_of}
 use Rattle.mol_spell.specs.ReadTrees.{Mode, followers, before}
 use Rattle.mol_spell.specs.StaticTypes as static
@@ -61,9 +61,12 @@ trees parts = map (λ part. part.tree) parts
 
 -- ---- what is printed where there is no name
 
--- A parameter that no list has, and a constructor that nothing declares, have no name.
+-- A local that is declared nowhere, a parameter that no list has, and a constructor that nothing declares, have no name.
 abbrev pub no_name : Name
 no_name = codes "$"
+
+abbrev pub local_text : Locals Id → ℕ → Name
+local_text locals number = option_map_or (λ (local : Local Id). local.name) (slice_get locals.declared number) no_name
 
 -- ---- members
 
@@ -165,7 +168,7 @@ module _ (writer : Writer) (locals : Locals Id) where
   abbrev pub tree_step : IExpr-F SpelledExpr SpelledExpr → Expr
   tree_step (IExpr-F.Lit text) = made (node.Lit text)
   tree_step IExpr-F.This = made node.This
-  tree_step (IExpr-F.Local number) = name_tree (local_name locals number)
+  tree_step (IExpr-F.Local number) = name_tree (local_text locals number)
   tree_step (IExpr-F.Param id) = name_tree (param_name id)
   tree_step (IExpr-F.Own field) = field_tree (own_form field) field
   tree_step (IExpr-F.StaticField field) = field_tree (static_form field) field
@@ -255,7 +258,7 @@ module _ (writer : Writer) (locals : Locals Id) where
   abbrev pub references_step : IExpr-F SpelledExpr SpelledExpr → Mode → List Reference
   references_step (IExpr-F.Lit text) mode = []
   references_step IExpr-F.This mode = []
-  references_step (IExpr-F.Local number) mode = plain (local_target number) (asks_name (local_name locals number) mode) ∷ []
+  references_step (IExpr-F.Local number) mode = plain (local_target number) (asks_name (local_text locals number) mode) ∷ []
   references_step (IExpr-F.Param id) mode = plain (param_target id) (asks_name (param_name id) mode) ∷ []
   references_step (IExpr-F.Own field) mode = field_reference (own_form field) field mode ∷ []
   references_step (IExpr-F.StaticField field) mode = field_reference (static_form field) field mode ∷ []

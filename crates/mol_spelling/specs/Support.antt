@@ -140,7 +140,7 @@ pub data Supports (program : Program) : Fault → Cell → Type 0 where
   declaration_outside : {method declaration : Id} {at : Cell} → IsDeclarationOf program method declaration
       → IsOneOf declaration (slots.Live ∷ slots.Method ∷ []) at → Supports program (outside_name method) at
   missing_in : {at : Cell} {target : Id} → Supports program (missing at target) at
-  owner_of_missing : {at life : Cell} {target : Id} → LifeCell program at.id life → Supports program (missing at target) life
+  entity_of_missing : {at life : Cell} {target : Id} → LifeCell program at.id life → Supports program (missing at target) life
   life_of_missing : {at life : Cell} {target : Id} → LifeCell program target life → Supports program (missing at target) life
   params_of_missing : {at : Cell} {target method : Id} → method_of_param program target ≡ Some method
       → Supports program (missing at target) (cell method slots.Params)
@@ -152,7 +152,7 @@ pub data Supports (program : Program) : Fault → Cell → Type 0 where
       → Contains (default_creations value) class → IsConstructorOf program class declaration
       → Supports program (missing at target) (cell declaration slots.Live)
   misread_in : {at : Cell} {number : ℕ} {target : FaultTarget} → Supports program (misread at number target) at
-  owner_of_misread : {at life : Cell} {number : ℕ} {target : FaultTarget} → LifeCell program at.id life
+  entity_of_misread : {at life : Cell} {number : ℕ} {target : FaultTarget} → LifeCell program at.id life
       → Supports program (misread at number target) life
   target_of_misread : {at header : Cell} {number : ℕ} {target : FaultTarget} {met : Target} {id : Id}
       → IsMetBy program at number target met → Concerns program met id → HeaderCell program id header

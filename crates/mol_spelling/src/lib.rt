@@ -33,7 +33,8 @@ pub fn faults_determined()
 {}
 
 /// The law of reading back: an expression of names, members and calls whose names read as their targets, read again by the view of the
-/// program, is a value that says it, without a fault and of its static type.
+/// program, is a value that says it, without a fault and of its static type. In the files of a program that keeps the rules of programs
+/// names are written where they are read by that view.
 #[tactic(auto, using(crate::proofs::WholeBack::reads_back))]
 pub fn reads_back()
     ensures { ReadsBack }
