@@ -1,0 +1,3 @@
+pub mod TypeOrder
+pub mod SignatureOrder
+pub mod Repeats
