@@ -1,0 +1,2 @@
+pub mod Ascended
+pub mod Stepped

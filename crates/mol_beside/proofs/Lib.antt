@@ -1,0 +1,5 @@
+mod Here
+mod KindsNoted
+mod Owners
+mod Tests
+pub mod BesideNoted
