@@ -52,7 +52,8 @@ module _ (files : Files) (second : Row ℕ) where
         ∙ duplicates first.kind second.kind (is_before first second) (named first) (takes_same first second) bare
 
     overload-here : is_between view first second overload_by_type
-        ≡ overloaded first.kind second.kind (is_before first second) false (named first) (take_as_many first second) (takes_same first second)
+        ≡ overloaded first.kind second.kind (is_before first second) false (named first) (take_as_many first second)
+        (takes_same first second)
     overload-here = λ i.
         overloaded first.kind second.kind (in-order i) (not-above i) (named first) (take_as_many first second) (takes_same first second)
 

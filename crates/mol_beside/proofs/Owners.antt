@@ -93,8 +93,9 @@ module _ (files : Files) where
                     → Contains (rows_of files second.owner) first ⊎ Contains (rows_above files second.owner) first
                 by (inl same) = inl (subst (λ class. Contains (rows_of files class) first) same (at-owner first stands))
                 by (inr above) = inr (in_each (rows_of files) (ancestors (files_view files) second.owner) first.owner first
-                    ((is_met-decides (files_view files).classes (files-ordered files).classes (ancestors (files_view files) second.owner)
-                    first.owner).0 ((is_ancestor-decides (files_view files) (files-ordered files).classes second.owner first.owner).1 above))
+                    ((is_met-decides (files_view files).classes (files-ordered files).classes
+                    (ancestors (files_view files) second.owner) first.owner).0
+                    ((is_ancestor-decides (files_view files) (files-ordered files).classes second.owner first.owner).1 above))
                     (at-owner first stands))
 
           above-row : (first : Row ℕ) → Contains (rows_above files second.owner) first → Contains (rows files) first

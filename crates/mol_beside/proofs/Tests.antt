@@ -10,7 +10,8 @@ alike kind first second named = same_kind first kind && (same_kind second kind &
 -- ---- in one class
 
 pub duplicates : (first second : MemberKind) (before named same : Bool) → (first ≡ a_field → second ≡ a_field → same ≡ true)
-    → (before && (alike a_field first second named || ((alike a_method first second named || alike a_constructor first second named) && same)))
+    → (before && (alike a_field first second named
+    || ((alike a_method first second named || alike a_constructor first second named) && same)))
     ≡ (before && ((same_kind first second && named) && same))
 duplicates a_field a_field before named same bare = by named same (bare refl refl) where
   by : (named same : Bool) → same ≡ true

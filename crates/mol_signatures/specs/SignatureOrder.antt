@@ -21,7 +21,8 @@ types_of signature = map view_type signature.params.now
 
 -- by kind, then by the bytes of the name, then by the types of parameters
 abbrev pub key_cmp : Signature → Signature → Ordering
-key_cmp = then_cmp (then_cmp (on (λ signature. kind_rank signature.kind) nat_cmp) (on (λ signature. signature.name.now) (slice_cmp nat_cmp)))
+key_cmp = then_cmp
+    (then_cmp (on (λ signature. kind_rank signature.kind) nat_cmp) (on (λ signature. signature.name.now) (slice_cmp nat_cmp)))
     (on types_of types_cmp)
 
 -- and then by place
