@@ -20,10 +20,10 @@ pub struct Entry {
 
 impl Entry {
     /// How its owner, number of parameters and name compare with these, in this order. Names compare byte by byte.
-    pub fn compare(&self, owner: Id, arity: usize, name: &Spelling<'_>) -> Ordering
-        ensures { result ≡ sought_cmp (sought_of self.now) (record { owner = owner; arity = arity; name = spelled name.now }) }
+    pub fn compare(&self, owner: &Id, arity: usize, name: &Spelling<'_>) -> Ordering
+        ensures { result ≡ sought_cmp (sought_of self.now) (record { owner = owner.now; arity = arity; name = spelled name.now }) }
     {
-        match self.owner.cmp(&owner).then(self.arity.cmp(&arity)) {
+        match self.owner.cmp(owner).then(self.arity.cmp(&arity)) {
             Ordering::Equal => name.compare(self.name.bytes()),
             order => order,
         }

@@ -34,7 +34,7 @@ impl Index {
     {
         entries.sort_by(|first, second| {
             first.compare(
-                second.owner,
+                &second.owner,
                 second.arity,
                 &Spelling::Whole(second.name.bytes()),
             )
@@ -44,8 +44,8 @@ impl Index {
 
     /// The first identity of an owner with this number of parameters and this name. It takes no memory, and the time is
     /// logarithmic in the number of entries.
-    pub fn first(&self, owner: Id, arity: usize, name: &Spelling<'_>) -> Option<Id>
-        ensures { result ≡ option_map (λ entry. entry.id) (find (is_sought owner arity (spelled name.now)) self.now) }
+    pub fn first(&self, owner: &Id, arity: usize, name: &Spelling<'_>) -> Option<Id>
+        ensures { result ≡ option_map (λ entry. entry.id) (find (is_sought owner.now arity (spelled name.now)) self.now) }
     {
         let entries = self.entries.as_slice();
         let place = entries.partition_point(|entry| entry.compare(owner, arity, name).is_lt());

@@ -13,7 +13,7 @@ use Rattle.mol_index.proofs.index.Index.first.Goals as goal
 
 pub returns-in-Some : goal.returns-in-Some
 returns-in-Some c =
-    let k : Sought = record { owner = c.args.owner; arity = c.args.arity; name = spelled c.args.name.now } in
+    let k : Sought = record { owner = c.args.owner.now; arity = c.args.arity; name = spelled c.args.name.now } in
     let xs : List Entry = c.as_slice-entries.result.now in
     let place : ℕ = c.partition_point-place.result in
     let value : xs ≡ c.args.self.now = c.as_slice-entries.ensures.value ∙ c.self.view_is in
@@ -33,7 +33,7 @@ returns-in-Some c =
 
 pub returns-in_default : goal.returns-in_default
 returns-in_default c =
-    let k : Sought = record { owner = c.args.owner; arity = c.args.arity; name = spelled c.args.name.now } in
+    let k : Sought = record { owner = c.args.owner.now; arity = c.args.arity; name = spelled c.args.name.now } in
     let xs : List Entry = c.as_slice-entries.result.now in
     let place : ℕ = c.partition_point-place.result in
     let value : xs ≡ c.args.self.now = c.as_slice-entries.ensures.value ∙ c.self.view_is in
