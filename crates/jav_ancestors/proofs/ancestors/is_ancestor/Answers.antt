@@ -31,7 +31,8 @@ returns-then-next-above c =
     let test : ℕ → Bool = λ n. is_eq (nat_cmp n c.args.above) in
     let left : ℕ = c.args.count - c.loop-step._step in
     let more = steps_up (left - 1) view c.args.class c.in-Some.next in
-    sym (ap (list_any test) (stepped view c.args.class c.loop-step.at left c.in-Some.next (omega (arith, c.loop-step-test.true)) c.in-Some.ensures)
+    sym (ap (list_any test)
+    (stepped view c.args.class c.loop-step.at left c.in-Some.next (omega (arith, c.loop-step-test.true)) c.in-Some.ensures)
     ∙ ap (λ b. b || list_any test more) ((same_key nat_cmp-IsKeyOrder c.in-Some.next c.args.above).1 c.if-next-above.true))
     ∙ sym c.loop-step.invariant
     ∙ met-ancestors view (classes_of-ordered (units_of c.args.scope.now)) c.args.class test c.args.count
@@ -45,7 +46,8 @@ loop-step-preserved c =
     let more = steps_up (left - 1) view c.args.class c.in-Some.next in
     let less : left - 1 ≡ c.args.count - (c.loop-step._step + 1) = omega arith in
     c.loop-step.invariant
-    ∙ ap (list_any test) (stepped view c.args.class c.loop-step.at left c.in-Some.next (omega (arith, c.loop-step-test.true)) c.in-Some.ensures)
+    ∙ ap (list_any test)
+    (stepped view c.args.class c.loop-step.at left c.in-Some.next (omega (arith, c.loop-step-test.true)) c.in-Some.ensures)
     ∙ ap (λ b. b || list_any test more) (apart c.in-Some.next c.args.above c.if-next-above.false)
     ∙ ap (λ n. list_any test (steps_up n view c.args.class c.in-Some.next)) less
 
