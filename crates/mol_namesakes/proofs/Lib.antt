@@ -1,0 +1,3 @@
+mod Likeness
+mod Grouped
+mod InTurn
