@@ -1,0 +1,3 @@
+pub mod ClassesFound
+pub mod KnownIds
+pub mod LivingClasses

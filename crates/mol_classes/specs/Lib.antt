@@ -1,0 +1,2 @@
+pub mod ClassEntries
+pub mod Made
