@@ -1,10 +1,9 @@
 -- The group of namesakes tells what those are, and grows by one more.
-use Rattle.std.proofs.Common.{◌≡◌, Bool, true, false, cond, ◌&&◌, ◌||◌, not, ℕ, ltb, List, [], ◌∷◌, ◌++◌, length, filter, find, Option, Some, None, option_map, is_some, refl, sym, ◌∙◌, ap, subst, true≢false, nat_cmp, Ordering, Less, Equal, Greater, bytes_eq, eqb-true, eq-eqb, eqb, ◌==◌, append-nil, if◌then◌else◌}
+use Rattle.std.proofs.Common.{◌≡◌, Bool, true, false, cond, ◌&&◌, ◌||◌, not, ℕ, ltb, List, [], ◌∷◌, ◌++◌, length, filter, find, Option, Some, None, option_map, is_some, refl, sym, ◌∙◌, ap, subst, true≢false, nat_cmp, bytes_eq, eqb-true, eq-eqb, eqb, ◌==◌, append-nil, if◌then◌else◌}
 use Rattle.std.specs.Cmp.Lexicographic.{slice_cmp}
 use Rattle.std.specs.List.{list_any}
-use Rattle.std.specs.List.Sorted.{IsStrictlySortedBy}
 use Rattle.std.specs.Option.{option_map_or, option_or}
-use Rattle.std.specs.Ordering.{is_eq, ordering_then, on}
+use Rattle.std.specs.Ordering.{is_eq, ordering_then}
 use Rattle.std.proofs.lemmas.Bool.Decides.{same_from_decides}
 use Rattle.std.proofs.lemmas.Slice.Eq.{bytes_eq-Decides}
 use Rattle.jav_types.specs.Kept.{view_type}
@@ -14,10 +13,9 @@ use Rattle.jav_view.proofs.Ways.{same_key}
 use Rattle.mol_signatures.proofs.TypesOrdered.{eq-then, tied-bytes}
 use Rattle.mol_spell.specs.FaultLists.{same_types}
 use Rattle.mol_namesakes.specs.Compared.{AreInOrder, types_of, are_namesakes, takes_same, gives_same, differences, differences_before, hides_static}
-use Rattle.mol_namesakes.specs.Groups.{place_of_other, summary, group_of, group_in, joined, grown, told, alike, told_early, told_before}
+use Rattle.mol_namesakes.specs.Groups.{place_of_other, summary, group_of, group_in, grown, told, alike, told_early, told_before}
 use Rattle.mol_namesakes.specs.declared.declaration.Declaration.{Declaration}
 use Rattle.mol_namesakes.specs.declared.group.Group.{Group}
-use Rattle.mol_namesakes.specs.declared.differences.Differences.{Differences}
 use Rattle.mol_namesakes.proofs.Likeness.{IsLikeness, type-likeness, types-likeness, on-likeness, any-same, any-filtered, some-differ, some-differ_before, none-differ_before, filters-swap, filtered-ascends}
 
 takes-likeness : IsLikeness takes_same
@@ -194,7 +192,8 @@ filter-more : (p : Declaration → Bool) (xs : List Declaration) (x : Declaratio
 filter-more p [] x = refl
 filter-more p (y ∷ ys) x = by (p y) (filter-more p ys x) where
   by : (b : Bool) → filter p (ys ++ x ∷ []) ≡ filter p ys ++ (if p x then x ∷ [] else [])
-      → cond b (y ∷ filter p (ys ++ x ∷ [])) (filter p (ys ++ x ∷ [])) ≡ cond b (y ∷ filter p ys) (filter p ys) ++ (if p x then x ∷ [] else [])
+      → cond b (y ∷ filter p (ys ++ x ∷ [])) (filter p (ys ++ x ∷ []))
+      ≡ cond b (y ∷ filter p ys) (filter p ys) ++ (if p x then x ∷ [] else [])
   by true more = ap (λ zs. y ∷ zs) more
   by false more = more
 

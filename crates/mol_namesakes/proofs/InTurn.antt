@@ -1,5 +1,5 @@
 -- Lists of types are equal where their first types are, and the rest.
-use Rattle.std.proofs.Common.{◌≡◌, ◌⊎◌, inl, inr, ℕ, ◌+◌, ◌<◌, ◌≤◌, Bool, true, false, ◌&&◌, ◌==◌, List, [], ◌∷◌, map, drop, length, get_or, refl, sym, ◌∙◌, ap, arith, nat_cmp, eq-eqb, ne_eqb, length-drop}
+use Rattle.std.proofs.Common.{◌≡◌, ◌⊎◌, inl, inr, ℕ, ◌+◌, ◌<◌, ◌≤◌, Bool, false, ◌&&◌, ◌==◌, List, [], ◌∷◌, map, drop, length, get_or, refl, sym, ◌∙◌, ap, arith, nat_cmp, eq-eqb, ne_eqb, length-drop}
 use Rattle.std.proofs.lemmas.List.{drop_all}
 use Rattle.jav_index.proofs.Searched.{below-or_from}
 use Rattle.jav_types.specs.Kept.{view_type}

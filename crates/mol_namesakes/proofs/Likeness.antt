@@ -1,6 +1,5 @@
 -- Which types are equal: those of namesakes are compared with the first of them alone.
-use Rattle.std.proofs.Common.{◌≡◌, Bool, true, false, cond, ◌&&◌, ◌||◌, not, ℕ, ◌<◌, ltb, ltb-true, ltb-false, le-ltb, List, [], ◌∷◌, map, filter, find, Option, Some, None, option_map, is_some, refl, sym, ◌∙◌, ap, subst, arith, true≢false, nat_cmp, Less, All}
-use Rattle.std.specs.Bool.{Decides}
+use Rattle.std.proofs.Common.{◌≡◌, Bool, true, false, cond, ◌&&◌, ◌||◌, not, ℕ, ◌<◌, ltb, ltb-false, le-ltb, List, [], ◌∷◌, filter, find, Some, option_map, is_some, refl, sym, ◌∙◌, ap, subst, arith, true≢false, nat_cmp, Less}
 use Rattle.std.specs.List.{list_any, AllByRecursion}
 use Rattle.std.specs.List.Sorted.{IsStrictlySortedBy}
 use Rattle.std.specs.Option.{option_map_or}

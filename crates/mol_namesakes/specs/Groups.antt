@@ -16,7 +16,8 @@ use Rattle.mol_namesakes.specs.declared.group.Group.{Group}
 
 -- the place of the first that is not the same as this one
 abbrev pub place_of_other : (Declaration → Declaration → Bool) → Declaration → List Declaration → Option ℕ
-place_of_other same first declared = option_map (λ declaration. declaration.place) (find (λ declaration. not (same first declaration)) declared)
+place_of_other same first declared =
+    option_map (λ declaration. declaration.place) (find (λ declaration. not (same first declaration)) declared)
 
 -- what is kept of these namesakes, of which this is the first
 abbrev pub summary : Declaration → List Declaration → Group

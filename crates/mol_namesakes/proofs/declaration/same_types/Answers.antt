@@ -1,4 +1,4 @@
-use Rattle.std.proofs.Common.{◌≡◌, ◌+◌, ◌&&◌, Bool, true, false, map, drop, sym, ◌∙◌, ap, arith, nat_cmp}
+use Rattle.std.proofs.Common.{◌+◌, ◌&&◌, map, drop, sym, ◌∙◌, ap, arith, nat_cmp}
 use Rattle.jav_types.specs.Kept.{view_type}
 use Rattle.mol_spell.specs.FaultLists.{same_types}
 use Rattle.mol_namesakes.proofs.InTurn.{alike-more, alike-past, alike-end}
