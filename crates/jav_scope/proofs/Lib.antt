@@ -3,8 +3,8 @@ mod NamesFound
 pub mod CutTexts
 mod TypesFound
 mod AboveClasses
-mod Climbing
-mod ClimbSteps
+pub mod Climbing
+pub mod ClimbSteps
 pub mod Numbered
 mod MembersListed
 mod MemberOwners

@@ -1,7 +1,7 @@
 //! Types as they are read.
 ghost use Rattle.std.specs.Prelude.{◌≡◌, IfOk};
 ghost use Rattle.std.specs.Ordering.{nat_cmp};
-ghost use Rattle.jav_view.specs.StaticTypes.{same_type};
+ghost use Rattle.jav_view.specs.StaticTypes.{is_unread, same_type};
 ghost use Rattle.jav_types.specs.Kept.{view_type};
 
 use mol_base::{Boxed, OutOfMemory, Text};
@@ -52,6 +52,17 @@ impl SeenType {
             (SeenType::Class(first), SeenType::Class(second)) => first == second,
             (SeenType::Outside(first), SeenType::Outside(second)) => first == second,
             (SeenType::Array(first), SeenType::Array(second)) => first.get().same(second.get()),
+            _ => false,
+        }
+    }
+
+    /// Whether its name reads as nothing, or that of the items of an array does. It takes no memory.
+    pub fn is_unread(&self) -> bool
+        ensures { result ≡ is_unread (view_type self.now) }
+    {
+        match self {
+            SeenType::Unread => true,
+            SeenType::Array(item) => item.get().is_unread(),
             _ => false,
         }
     }

@@ -1,5 +1,5 @@
 mod Here
-mod KindsNoted
+pub mod KindsNoted
 mod Owners
 mod Tests
 pub mod BesideNoted

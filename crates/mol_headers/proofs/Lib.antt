@@ -3,5 +3,5 @@ pub mod Marking
 pub mod DoublesFound
 pub mod Fronts
 pub mod PackagesFound
-pub mod Told
+pub mod Failing
 pub mod FoundClashes

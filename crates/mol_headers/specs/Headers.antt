@@ -27,5 +27,5 @@ abbrev pub fails : List SourceUnit → FaultKind → ℕ × SourceUnit → Bool
 fails sources kind file = has_fault (files_of sources) (file.0, file_of file.1) kind
 
 -- of each file whether it has one
-abbrev pub told : FaultKind → List SourceUnit → List Bool
-told kind sources = map (fails sources kind) (numbered sources)
+abbrev pub failing : FaultKind → List SourceUnit → List Bool
+failing kind sources = map (fails sources kind) (numbered sources)

@@ -1,6 +1,6 @@
 //! Classes of one full name.
 ghost use Rattle.std.specs.Prelude.{◌≡◌, ◌<◌, ◌==◌, ◌&&◌, ◌||◌, not, false, ℕ, IfOk, length, slice_index_or};
-ghost use Rattle.mol_headers.specs.Headers.{told};
+ghost use Rattle.mol_headers.specs.Headers.{failing};
 ghost use Rattle.mol_spell.specs.FaultKinds as kind;
 
 use crate::full_names::first_of;
@@ -16,7 +16,7 @@ pub fn doubles(
     sources: &[SourceUnit],
 ) -> Result<Vec<bool>, OutOfMemory>
     requires { scope.now ≡ sources.now }
-    ensures { IfOk result (λ doubles. doubles.items ≡ told kind.duplicate_class sources.now) }
+    ensures { IfOk result (λ doubles. doubles.items ≡ failing kind.duplicate_class sources.now) }
 {
     let mut doubles = Vec::from_elem(alloc, false, sources.len())?;
     for (place, source) in sources.iter().enumerate() {

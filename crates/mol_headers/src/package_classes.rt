@@ -2,7 +2,7 @@
 ghost use Rattle.std.specs.Prelude.{◌≡◌, ◌<◌, ◌≤◌, ◌||◌, false, ℕ, IfOk, length, slice_index_or};
 ghost use Rattle.mol_headers.specs.Marks.{Marked};
 ghost use Rattle.mol_headers.specs.Packages.{ends_front, front_names, is_first, package_names, text_names};
-ghost use Rattle.mol_headers.specs.Headers.{told};
+ghost use Rattle.mol_headers.specs.Headers.{failing};
 ghost use Rattle.mol_spell.specs.FaultKinds as kind;
 
 use crate::full_names::first_of;
@@ -19,7 +19,7 @@ pub fn packages(
     sources: &[SourceUnit],
 ) -> Result<Vec<bool>, OutOfMemory>
     requires { scope.now ≡ sources.now }
-    ensures { IfOk result (λ packages. packages.items ≡ told kind.package_is_class sources.now) }
+    ensures { IfOk result (λ packages. packages.items ≡ failing kind.package_is_class sources.now) }
 {
     let named = named_first(alloc, scope, sources)?;
     let marks = named.as_slice();

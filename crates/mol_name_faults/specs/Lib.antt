@@ -1,4 +1,4 @@
 pub mod Kinds
 pub mod First
 pub mod Noted
-pub mod Told
+pub mod ResolveFaults

@@ -1,7 +1,7 @@
 //! Why source files are no program.
 ghost use Rattle.std.specs.Prelude.{◌≡◌};
 ghost use Rattle.mol_name_faults.specs.Kinds.{kind_of};
-ghost use Rattle.mol_name_faults.specs.Told.{fault_of, place_of, name_of};
+ghost use Rattle.mol_name_faults.specs.ResolveFaults.{fault_of, place_of, name_of};
 
 use crate::kind::FaultKind;
 use mol_base::OutOfMemory;

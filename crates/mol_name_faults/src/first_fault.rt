@@ -3,7 +3,7 @@ ghost use Rattle.std.specs.Prelude.{◌≡◌, None, option_map};
 ghost use Rattle.mol_name_faults.specs.First.{goes_before, noted};
 ghost use Rattle.mol_name_faults.specs.Kinds.{kind_of};
 ghost use Rattle.mol_name_faults.specs.Noted.{noted_fault};
-ghost use Rattle.mol_name_faults.specs.Told.{told};
+ghost use Rattle.mol_name_faults.specs.ResolveFaults.{resolve_fault};
 
 use crate::fault::{FaultPlace, ResolveFault};
 use crate::kind::FaultKind;
@@ -53,7 +53,7 @@ impl FirstFault {
 
     /// The first of the faults that were met, if one was, in the file of this number. It takes no memory.
     pub fn fault(&self, unit: u32) -> Option<ResolveFault>
-        ensures { result ≡ option_map (told unit) self.now }
+        ensures { result ≡ option_map (resolve_fault unit) self.now }
     {
         match &self.first {
             Some(first) => {

@@ -1,6 +1,6 @@
 //! The kinds of faults.
 
-/// Why source files are no program. Of several faults of one place the first in this order is told.
+/// Why source files are no program. Of several faults of one place the first in this order is reported.
 #[derive(Clone, Copy, Debug, PartialEq, Eq, PartialOrd, Ord)]
 pub enum FaultKind {
     /// The path is not that of the package and the class.

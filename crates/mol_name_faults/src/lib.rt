@@ -1,4 +1,4 @@
-//! The faults for which source files are no program, and which of several is told.
+//! The faults for which source files are no program, and which of several is reported.
 #![tactic(auto)]
 
 mod fault;

@@ -7,7 +7,7 @@ use Rattle.std.specs.List.{list_any}
 use Rattle.mol_base.specs.Order.{id_cmp-total}
 use Rattle.mol_spell.specs.ReadTrees.{with_params}
 use Rattle.mol_table.proofs.Living.{same_id-own}
-use Rattle.mol_table.proofs.TidiedExpressions.{ids}
+use Rattle.mol_table.proofs.TidiedExpressions.{ids, passed-over}
 use Rattle.mol_table.specs.Forms.{differ}
 use Rattle.mol_table.specs.Program.{same_id}
 use Rattle.mol_table.specs.Tidy.{value_of, arguments_for}
@@ -15,24 +15,9 @@ use Rattle.mol_values.specs.declared.iexpr.Argument.{Argument}
 use Rattle.mol_values.specs.declared.iexpr.IExpr.{IExpr}
 use Rattle.mol_values.specs.declared.param.Param.{Param}
 
-neither : (a b : Bool) → (a || b) ≡ false → (a ≡ false) × (b ≡ false)
-neither true b is = absurd (true≢false is)
-neither false b is = (refl, is)
-
 is-false : (a : Bool) → not a ≡ true → a ≡ false
 is-false true is = absurd (true≢false (sym is))
 is-false false is = refl
-
--- an argument for another parameter is found for none of these
-found-without : (argument : Argument) (args : List Argument) (params : List Param)
-    → list_any (same_id argument.param) (ids params) ≡ false
-    → arguments_for params (argument ∷ args) ≡ arguments_for params args
-found-without argument args [] apart = refl
-found-without argument args (param ∷ params) apart =
-    let parts = neither (same_id argument.param param.id) (list_any (same_id argument.param) (ids params)) apart in
-    let unlike : same_id param.id argument.param ≡ false = (eq_by_cmp_equiv id_cmp-total).symm param.id argument.param ∙ parts.0 in
-    λ i. record { param = param.id; value = if unlike i then argument.value else value_of args param }
-    ∷ found-without argument args params parts.1 i
 
 pub found-in-order : (params : List Param) (es : List IExpr) → length es ≡ length params → differ (ids params) ≡ true
     → arguments_for params (with_params (ids params) es) ≡ with_params (ids params) es
@@ -40,6 +25,6 @@ found-in-order [] es as_many apart = refl
 found-in-order (param ∷ params) [] as_many apart = absurd (omega (arith, as_many))
 found-in-order (param ∷ params) (e ∷ es) as_many apart =
     let parts = and_parts (not (list_any (same_id param.id) (ids params))) (differ (ids params)) apart in
-    let rest = found-without (record { param = param.id; value = e }) (with_params (ids params) es) params (is-false _ parts.0)
+    let rest = passed-over (record { param = param.id; value = e }) (with_params (ids params) es) params (is-false _ parts.0)
     ∙ found-in-order params es (omega (arith, as_many)) parts.1 in
     λ i. record { param = param.id; value = if same_id-own param.id i then e else value_of (with_params (ids params) es) param } ∷ rest i

@@ -14,7 +14,8 @@ params_start done none None = refl
 params_start done none (Some params) = ap (λ front. Some (front ++ params)) (sym none)
 
 module _ (done : List ParamRow) (d : Data) (ds : Items) where
-  pub params_more : (row : ParamRow) → object_from param d ≡ Some row → onto done (params_in (item d ds)) ≡ onto (done ++ row ∷ []) (params_in ds)
+  pub params_more : (row : ParamRow) → object_from param d ≡ Some row
+      → onto done (params_in (item d ds)) ≡ onto (done ++ row ∷ []) (params_in ds)
   unfolding params_in
   params_more row is = ap (λ o. onto done (option_and_then (λ p. param_before p (params_in ds)) o)) is ∙ by (params_in ds) where
     by : (o : Option (List ParamRow)) → onto done (param_before row o) ≡ onto (done ++ row ∷ []) o

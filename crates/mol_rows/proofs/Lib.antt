@@ -11,3 +11,4 @@ pub mod Steps
 pub mod FirstLines
 pub mod LineFaults
 pub mod NextRows
+pub mod LinesLeft

@@ -22,12 +22,14 @@ Tells last stamp told = (tags : List (List ℕ)) (earlier : List Stamp) → Know
 abbrev pub TakesStamp : LastNumbers → Stamp → LastNumbers → Type 0
 TakesStamp last stamp new = (tags : List (List ℕ)) (earlier : List Stamp) → Knows last tags earlier → Knows new tags (stamp ∷ earlier)
 
-module _ (old : Rows) (tags : List (List ℕ)) (earlier : List Stamp) (number : ℕ) (lines : List Line) (stands : StandsOn old tags earlier number lines) where
+module _ (old : Rows) (tags : List (List ℕ)) (earlier : List Stamp) (number : ℕ) (lines : List Line)
+    (stands : StandsOn old tags earlier number lines) where
   -- no line is left
   pub none_left : (new : Rows) → lines_left old.rest ≡ [] → lines_left new.rest ≡ [] → new.number ≡ old.number → new.last ≡ old.last
       → (lines ≡ []) × StandsOn new tags earlier number []
   none_left new none left counted same =
-      (sym stands.left ∙ none, record { knows = subst (λ last. Knows last tags earlier) (sym same) stands.knows; counted = counted ∙ stands.counted; left = left })
+      let knows = subst (λ last. Knows last tags earlier) (sym same) stands.knows in
+      (sym stands.left ∙ none, record { knows = knows; counted = counted ∙ stands.counted; left = left })
 
   module _ (line : Line) (new : Rows) (cut : lines_left old.rest ≡ line ∷ lines_left new.rest) (counted : new.number ≡ old.number + 1) where
     pub taken : (found : Recorded) (told : Bool) → SaysRow old.number line found → Tells old.last found.stamp told → told ≡ true
@@ -73,7 +75,8 @@ module _ (old : Rows) (tags : List (List ℕ)) (earlier : List Stamp) (number : 
         (passed p.0 (λ enough. rows.bad_line (subst (IsRowFault old.number line) (sym p.2) (has (λ none. enough (p.2 ∙ none))))) same)
 
     -- where the stamp may not follow
-    pub passed_stamp : (found : Recorded) (told : Bool) → SaysRow old.number line found → Tells old.last found.stamp told → told ≡ false → new.last ≡ old.last
+    pub passed_stamp : (found : Recorded) (told : Bool) → SaysRow old.number line found → Tells old.last found.stamp told → told ≡ false
+        → new.last ≡ old.last
         → Passes tags earlier number lines (BadStamp old.number) new
     passed_stamp found told says tells not same =
         passed (BadStamp old.number) (λ enough. rows.no_follower says (sym (tells tags earlier stands.knows) ∙ not)) same

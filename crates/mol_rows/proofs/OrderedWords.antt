@@ -52,28 +52,34 @@ fewer test keeps (x ∷ xs) = fewer_more test x xs (filter keeps xs) (keeps x) (
 
 -- no more often than among all modifiers
 as_among_all : (words : List (List ℕ)) → in_order words ≡ words → (word : List ℕ) → times words word ≤ times (map codes all_words) word
-as_among_all words ordered word = subst (λ ws. times ws word ≤ times (map codes all_words) word) ordered (fewer (bytes_eq word) (λ w. list_any (bytes_eq w) words) (map codes all_words))
+as_among_all words ordered word = subst (λ ws. times ws word ≤ times (map codes all_words) word) ordered
+    (fewer (bytes_eq word) (λ w. list_any (bytes_eq w) words) (map codes all_words))
 
-once : (words : List (List ℕ)) → in_order words ≡ words → (allowed : List String) → list_all (λ word. nat_le (times (map codes all_words) (codes word)) 1) allowed ≡ true
+once : (words : List (List ℕ)) → in_order words ≡ words → (allowed : List String)
+    → list_all (λ word. nat_le (times (map codes all_words) (codes word)) 1) allowed ≡ true
     → list_all (λ word. nat_le (times words (codes word)) 1) allowed ≡ true
 once words ordered [] all = refl
 once words ordered (word ∷ allowed) all =
-    let tests = both_true (nat_le (times (map codes all_words) (codes word)) 1) (list_all (λ word. nat_le (times (map codes all_words) (codes word)) 1) allowed) all in
+    let tests = both_true (nat_le (times (map codes all_words) (codes word)) 1)
+    (list_all (λ word. nat_le (times (map codes all_words) (codes word)) 1) allowed) all in
     let most = as_among_all words ordered (codes word) in
-    let here : nat_le (times words (codes word)) 1 ≡ true = at_most (times words (codes word)) (times (map codes all_words) (codes word)) most tests.0 in
+    let here : nat_le (times words (codes word)) 1 ≡ true = at_most (times words (codes word))
+    (times (map codes all_words) (codes word)) most tests.0 in
     ap (λ b. b && list_all (λ word. nat_le (times words (codes word)) 1) allowed) here ∙ once words ordered allowed tests.1 where
       at_most : (a b : ℕ) → a ≤ b → nat_le b 1 ≡ true → nat_le a 1 ≡ true
       at_most a b less low = grind (arith, nat_tests, less, low)
 
 -- ---- the form
 
-form_from : (allowed : List String) (words : List (List ℕ)) → AllowedWords allowed words → in_order words ≡ words → are_words allowed words ≡ true
+form_from : (allowed : List String) (words : List (List ℕ)) → AllowedWords allowed words → in_order words ≡ words
+    → are_words allowed words ≡ true
 form_from allowed words are ordered =
     let order : pointwise bytes_eq (in_order words) words ≡ true = ap (λ ws. pointwise bytes_eq ws words) ordered ∙ same_texts words in
     ap (λ b. b && pointwise bytes_eq (in_order words) words && has_one_access words) are.known
     ∙ ap (λ b. b && has_one_access words) order ∙ are.one_access
 
-to_form : (allowed : List String) → list_all (λ word. nat_le (times (map codes all_words) (codes word)) 1) allowed ≡ true → (words : List (List ℕ)) → are_words allowed words ≡ true
+to_form : (allowed : List String) → list_all (λ word. nat_le (times (map codes all_words) (codes word)) 1) allowed ≡ true
+    → (words : List (List ℕ)) → are_words allowed words ≡ true
     → AllowedWords allowed words × (in_order words ≡ words)
 to_form allowed single words form =
     let outer = both_true (list_all (among allowed) words && pointwise bytes_eq (in_order words) words) (has_one_access words) form in
@@ -88,7 +94,8 @@ both true false false there back = refl
 both false b true there back = absurd (let clash = (back refl).0 in cc)
 both false b false there back = refl
 
-module _ (words : List (List ℕ)) (allowed ordered : Bool) (known : List String) (single : list_all (λ word. nat_le (times (map codes all_words) (codes word)) 1) known ≡ true) where
+module _ (words : List (List ℕ)) (allowed ordered : Bool) (known : List String)
+    (single : list_all (λ word. nat_le (times (map codes all_words) (codes word)) 1) known ≡ true) where
   tested : IsTrue allowed ↔ AllowedWords known words → IsTrue ordered ↔ AreInOrder words → (allowed && ordered) ≡ are_words known words
   tested are order =
       both allowed ordered (are_words known words)
@@ -96,7 +103,8 @@ module _ (words : List (List ℕ)) (allowed ordered : Bool) (known : List String
       (λ form. let is = to_form known single words form in (are.1 is.0, order.1 is.1))
 
 -- what the two tests of the code say
-pub words_tested : (kind : Modified) (words : List (List ℕ)) (allowed ordered : Bool) → kind ≢ of.AbstractMethod → IsTrue allowed ↔ AreAllowed kind words → IsTrue ordered ↔ AreInOrder words
+pub words_tested : (kind : Modified) (words : List (List ℕ)) (allowed ordered : Bool) → kind ≢ of.AbstractMethod
+    → IsTrue allowed ↔ AreAllowed kind words → IsTrue ordered ↔ AreInOrder words
     → (allowed && ordered) ≡ are_words (words_before kind) words
 words_tested of.Class words allowed ordered not are order = tested words allowed ordered class_words refl are order
 words_tested of.Field words allowed ordered not are order = tested words allowed ordered field_words refl are order
@@ -106,7 +114,8 @@ words_tested of.KeptMethod words allowed ordered not are order = tested words al
 words_tested of.Constructor words allowed ordered not are order = tested words allowed ordered constructor_words refl are order
 
 -- where the first test fails
-pub words_refused : (kind : Modified) (words : List (List ℕ)) (allowed : Bool) → kind ≢ of.AbstractMethod → IsTrue allowed ↔ AreAllowed kind words → allowed ≡ false
+pub words_refused : (kind : Modified) (words : List (List ℕ)) (allowed : Bool) → kind ≢ of.AbstractMethod
+    → IsTrue allowed ↔ AreAllowed kind words → allowed ≡ false
     → allowed ≡ are_words (words_before kind) words
 words_refused kind words allowed not are fails =
     let decides = pointwise_decides bytes_decides (in_order words) words in

@@ -25,20 +25,24 @@ use Rattle.mol_rows.specs.declared.row.ParamRow.{ParamRow}
 
 -- ---- modifiers, comments and kinds
 
-pub words_found : (allowed : List String) (d : Data) (words : Words) → words_from allowed d ≡ Some words → (d ≡ texts_data words.texts) × (are_words allowed words.texts ≡ true)
+pub words_found : (allowed : List String) (d : Data) (words : Words) → words_from allowed d ≡ Some words → (d ≡ texts_data words.texts)
+    × (are_words allowed words.texts ≡ true)
 words_found allowed d words e = by (texts_from d) refl e where
-  made : (texts : List (List ℕ)) (b : Bool) → are_words allowed texts ≡ b → texts_from d ≡ Some texts → (if b then Some (words_of texts) else None) ≡ Some words
+  made : (texts : List (List ℕ)) (b : Bool) → are_words allowed texts ≡ b → texts_from d ≡ Some texts
+      → (if b then Some (words_of texts) else None) ≡ Some words
       → (d ≡ texts_data words.texts) × (are_words allowed words.texts ≡ true)
   made texts true are f e =
       let same : words_of texts ≡ words = cc in
       (texts_found d texts f ∙ ap (λ (w : Words). texts_data w.texts) same, ap (λ (w : Words). are_words allowed w.texts) (sym same) ∙ are)
   made texts false are f e = absurd cc
 
-  by : (o : Option (List (List ℕ))) → texts_from d ≡ o → option_and_then (words_made allowed) o ≡ Some words → (d ≡ texts_data words.texts) × (are_words allowed words.texts ≡ true)
+  by : (o : Option (List (List ℕ))) → texts_from d ≡ o → option_and_then (words_made allowed) o ≡ Some words → (d ≡ texts_data words.texts)
+      × (are_words allowed words.texts ≡ true)
   by None f e = absurd cc
   by (Some texts) f e = made texts (are_words allowed texts) refl f e
 
-pub comments_found : (d : Data) (texts : List (List ℕ)) → comments_from d ≡ Some texts → (d ≡ texts_data texts) × (are_comments texts ≡ true)
+pub comments_found : (d : Data) (texts : List (List ℕ)) → comments_from d ≡ Some texts → (d ≡ texts_data texts)
+    × (are_comments texts ≡ true)
 comments_found d texts e = let is = kept_is are_comments (texts_from d) texts e in (texts_found d texts is.0, is.1)
 
 pub notes_found : (d : Data) (notes : Notes) → member_notes_from d ≡ Some notes → (d ≡ member_notes notes) × (are_member_notes notes ≡ true)
@@ -54,16 +58,22 @@ notes_found d notes e = by (comments_from d) refl e where
 
 pub kind_found : (d : Data) (kind : MethodKind) → kind_from d ≡ Some kind → (d ≡ kind_data kind) × (is_kind kind ≡ true)
 kind_found (string s) kind e = by (bytes_eq s (codes "instance")) (bytes_eq s (codes "static")) refl refl e where
-  by : (a b : Bool) → bytes_eq s (codes "instance") ≡ a → bytes_eq s (codes "static") ≡ b → (if a then Some Instance else if b then Some Static else None) ≡ Some kind
+  by : (a b : Bool) → bytes_eq s (codes "instance") ≡ a → bytes_eq s (codes "static") ≡ b
+      → (if a then Some Instance else if b then Some Static else None) ≡ Some kind
       → (string s ≡ kind_data kind) × (is_kind kind ≡ true)
-  by true b i j e = let same : Instance ≡ kind = cc in (ap string (same_text s (codes "instance") (sym i)) ∙ ap kind_data same, ap is_kind (sym same))
-  by false true i j e = let same : Static ≡ kind = cc in (ap string (same_text s (codes "static") (sym j)) ∙ ap kind_data same, ap is_kind (sym same))
+  by true b i j e =
+      let same : Instance ≡ kind = cc in
+      (ap string (same_text s (codes "instance") (sym i)) ∙ ap kind_data same, ap is_kind (sym same))
+  by false true i j e =
+      let same : Static ≡ kind = cc in
+      (ap string (same_text s (codes "static") (sym j)) ∙ ap kind_data same, ap is_kind (sym same))
   by false false i j e = absurd cc
 kind_found d kind e = absurd cc
 
 -- ---- objects within objects
 
-pub class_notes_found : (d : Data) (notes : Notes) → class_notes_from d ≡ Some notes → (d ≡ class_notes notes) × (are_class_notes notes ≡ true)
+pub class_notes_found : (d : Data) (notes : Notes) → class_notes_from d ≡ Some notes → (d ≡ class_notes notes)
+    × (are_class_notes notes ≡ true)
 class_notes_found d notes e =
     let w = whole_found row_reader.class_notes d notes e in
     let front = step (codes "front") comments_from _ w.0 (notes, no_members) w.2 in
@@ -74,10 +84,12 @@ class_notes_found d notes e =
     let h = comments_found head.found head.value head.read in
     let t = comments_found tail.found tail.value tail.read in
     let formed : are_class_notes (notes_of front.value head.value tail.value) ≡ true = rw (f.1, h.1, t.1) refl in
-    let tail_is : head.rest ≡ member (codes "tail") (texts_data tail.value) no_members = tail.is ∙ (λ i. member (codes "tail") (t.0 i) (end.1 i)) in
+    let tail_is : head.rest ≡ member (codes "tail") (texts_data tail.value) no_members = tail.is
+    ∙ (λ i. member (codes "tail") (t.0 i) (end.1 i)) in
     let head_is : front.rest ≡ member (codes "head") (texts_data head.value) (member (codes "tail") (texts_data tail.value) no_members) =
     head.is ∙ (λ i. member (codes "head") (h.0 i) (tail_is i)) in
-    let is : d ≡ class_notes (notes_of front.value head.value tail.value) = w.1 ∙ ap object (front.is ∙ (λ i. member (codes "front") (f.0 i) (head_is i))) in
+    let is : d ≡ class_notes (notes_of front.value head.value tail.value) = w.1
+    ∙ ap object (front.is ∙ (λ i. member (codes "front") (f.0 i) (head_is i))) in
     (is ∙ ap class_notes end.0, ap are_class_notes (sym end.0) ∙ formed)
 
 pub param_found : (d : Data) (row : ParamRow) → object_from param d ≡ Some row → (d ≡ param_data row) × (is_param_row row ≡ true)
@@ -96,15 +108,18 @@ param_found d row e =
     let ty_is : name.rest ≡ member (codes "type") (texts_data ty.value) no_members = ty.is ∙ (λ i. member (codes "type") (t i) (end.1 i)) in
     let name_is : id.rest ≡ member (codes "name") (string name.value) (member (codes "type") (texts_data ty.value) no_members) =
     name.is ∙ (λ i. member (codes "name") (n.0 i) (ty_is i)) in
-    let id_is : filler.rest ≡ member (codes "id") (id_data id.value) (member (codes "name") (string name.value) (member (codes "type") (texts_data ty.value) no_members)) =
+    let id_is : filler.rest ≡ member (codes "id") (id_data id.value)
+    (member (codes "name") (string name.value) (member (codes "type") (texts_data ty.value) no_members)) =
     id.is ∙ (λ i. member (codes "id") (known.0 i) (name_is i)) in
-    let is : d ≡ param_data (param_of filler.value id.value name.value ty.value) = w.1 ∙ ap object (filler.is ∙ (λ i. member (codes "filler") (f.0 i) (id_is i))) in
+    let is : d ≡ param_data (param_of filler.value id.value name.value ty.value) = w.1
+    ∙ ap object (filler.is ∙ (λ i. member (codes "filler") (f.0 i) (id_is i))) in
     (is ∙ ap param_data end.0, ap is_param_row (sym end.0) ∙ formed)
 
 more_params : (d : Data) (ds : Items) (first : Option ParamRow) (o : Option (List ParamRow)) (rows : List ParamRow)
     → ((row : ParamRow) → first ≡ Some row → (d ≡ param_data row) × (is_param_row row ≡ true))
     → ((more : List ParamRow) → o ≡ Some more → (ds ≡ items (map param_data more)) × (list_all is_param_row more ≡ true))
-    → option_and_then (λ p. param_before p o) first ≡ Some rows → (item d ds ≡ items (map param_data rows)) × (list_all is_param_row rows ≡ true)
+    → option_and_then (λ p. param_before p o) first ≡ Some rows → (item d ds ≡ items (map param_data rows))
+    × (list_all is_param_row rows ≡ true)
 more_params d ds None o rows here rest e = absurd cc
 more_params d ds (Some row) None rows here rest e = absurd cc
 more_params d ds (Some row) (Some more) rows here rest e =
@@ -114,9 +129,11 @@ more_params d ds (Some row) (Some more) rows here rest e =
     let all : list_all is_param_row (row ∷ more) ≡ true = rw (h.1, r.1) refl in
     ((λ i. item (h.0 i) (r.0 i)) ∙ ap (λ rows. items (map param_data rows)) same, ap (list_all is_param_row) (sym same) ∙ all)
 
-pub params_in_found : (ds : Items) (rows : List ParamRow) → params_in ds ≡ Some rows → (ds ≡ items (map param_data rows)) × (list_all is_param_row rows ≡ true)
+pub params_in_found : (ds : Items) (rows : List ParamRow) → params_in ds ≡ Some rows → (ds ≡ items (map param_data rows))
+    × (list_all is_param_row rows ≡ true)
 unfolding params_in
-params_in_found no_items rows e = let same : [] ≡ rows = cc in (ap (λ rows. items (map param_data rows)) same, ap (list_all is_param_row) (sym same))
+params_in_found no_items rows e = let same : [] ≡ rows = cc in
+    (ap (λ rows. items (map param_data rows)) same, ap (list_all is_param_row) (sym same))
 params_in_found (item d ds) rows e = more_params d ds (object_from param d) (params_in ds) rows (param_found d) (params_in_found ds) e
 
 pub params_found : (d : Data) (rows : List ParamRow) → params_from d ≡ Some rows → (d ≡ params_data rows) × (are_param_rows rows ≡ true)

@@ -22,8 +22,10 @@ use Rattle.mol_rows.specs.declared.row.ParamRow.{ParamRow}
 
 -- ---- modifiers, comments and kinds
 
-pub words_read : (allowed : List String) (words : Words) → are_words allowed words.texts ≡ true → words_from allowed (texts_data words.texts) ≡ Some words
-words_read allowed words are = ap (option_and_then (words_made allowed)) (texts_read words.texts) ∙ ap (λ b. if b then Some words else None) are
+pub words_read : (allowed : List String) (words : Words) → are_words allowed words.texts ≡ true
+    → words_from allowed (texts_data words.texts) ≡ Some words
+words_read allowed words are = ap (option_and_then (words_made allowed)) (texts_read words.texts)
+    ∙ ap (λ b. if b then Some words else None) are
 
 empty_is : {A : Type 0} (xs : List A) → is_empty xs ≡ true → [] ≡ xs
 empty_is [] is = refl

@@ -13,7 +13,8 @@ use Rattle.mol_rows.specs.declared.row.Row.{Row}
 use Rattle.mol_rows.proofs.RowsFound.{recorded_found}
 use Rattle.mol_rows.proofs.RowsRead.{recorded_read}
 
-pub row_is : (said : Data) (result : Result Recorded ObjectFault) → Gives (recorded_from said) result → IfOk result (λ found. IsRow said found.stamp found.row)
+pub row_is : (said : Data) (result : Result Recorded ObjectFault) → Gives (recorded_from said) result
+    → IfOk result (λ found. IsRow said found.stamp found.row)
 row_is said (Ok found) gives = recorded_found said found gives
 row_is said (Err fault) gives = tt
 

@@ -18,7 +18,8 @@ unequal x y differ = by (bytes_eq x y) refl where
   by false is = is
 
 -- at its name the row is read
-pub row_at : (name known : List ℕ) (ms new : Members) (result : Result Row ObjectFault) → name ≡ known → Reads (row_named known ms) result new
+pub row_at : (name known : List ℕ) (ms new : Members) (result : Result Row ObjectFault) → name ≡ known
+    → Reads (row_named known ms) result new
     → Reads (row_named name ms) result new
 row_at name known ms new result same reads = subst (λ n. Reads (row_named n ms) result new) (sym same) reads
 
@@ -39,5 +40,6 @@ kind_at text known same = ap kind_of same
 -- a text that is neither kind
 pub no_kind : (text : List ℕ) → (text ≡ codes "instance" → ⊥) → (text ≡ codes "static" → ⊥) → kind_of text ≡ None
 no_kind text instance static =
-    ap (λ b. if b then Some Instance else if bytes_eq text (codes "static") then Some Static else None) (unequal text (codes "instance") instance)
+    ap (λ b. if b then Some Instance else if bytes_eq text (codes "static") then Some Static else None)
+    (unequal text (codes "instance") instance)
     ∙ ap (λ b. if b then Some Static else None) (unequal text (codes "static") static)

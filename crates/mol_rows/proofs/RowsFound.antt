@@ -48,7 +48,14 @@ add_class_found ms row e =
     let package_is = text_found is_dotted package_at.found package_at.value package_at.read in
     let super_is = maybe_found super_at.found super_at.value super_at.read in
     let words_is = words_found class_words words_at.found words_at.value words_at.read in
-    let made : Row = rows.AddClass (record { class = class_at.value; «package» = package_at.value; name = name_at.value; parent = super_at.value; words = words_at.value; notes = notes_at.value }) in
+    let made : Row = rows.AddClass (record {
+      class = class_at.value;
+      «package» = package_at.value;
+      name = name_at.value;
+      parent = super_at.value;
+      words = words_at.value;
+      notes = notes_at.value;
+    }) in
     let end = pure_is made row words_at.rest no_members words_at.more in
     let from_words = follow words_at.is words_is.0 end.1 in
     let from_super = follow super_at.is super_is from_words in
@@ -78,7 +85,15 @@ add_field_found ms row e =
     let type_is = texts_found type_at.found type_at.value type_at.read in
     let value_is = maybe_found value_at.found value_at.value value_at.read in
     let words_is = words_found field_words words_at.found words_at.value words_at.read in
-    let made : Row = rows.AddField (record { field = field_at.value; owner = owner_at.value; name = name_at.value; words = words_at.value; notes = notes_at.value; ty = type_at.value; value = value_at.value }) in
+    let made : Row = rows.AddField (record {
+      field = field_at.value;
+      owner = owner_at.value;
+      name = name_at.value;
+      words = words_at.value;
+      notes = notes_at.value;
+      ty = type_at.value;
+      value = value_at.value;
+    }) in
     let end = pure_is made row words_at.rest no_members words_at.more in
     let from_words = follow words_at.is words_is.0 end.1 in
     let from_value = follow value_at.is value_is from_words in
@@ -116,19 +131,22 @@ method_tail body decl kind method name notes = do
   words ← part (codes "words") (words_from kept_words)
   pure (method_of body decl kind method name notes owner params result words)
 
-record TailFound (body : Option (List (List ℕ))) (decl : Id) (kind : MethodKind) (method : Id) (name : List ℕ) (notes : Notes) (ms : Members) (row : Row) : Type 0 where
+record TailFound (body : Option (List (List ℕ))) (decl : Id) (kind : MethodKind) (method : Id) (name : List ℕ) (notes : Notes)
+    (ms : Members) (row : Row) : Type 0 where
   pub owner : Id
   pub params : List ParamRow
   pub result : List (List ℕ)
   pub words : Words
   pub made : method_of body decl kind method name notes owner params result words ≡ row
-  pub is : ms ≡ members (("op", string (codes "add-method")) ∷ ("owner", id_data owner) ∷ ("params", params_data params) ∷ ("result", texts_data result) ∷ ("words", texts_data words.texts) ∷ [])
+  pub is : ms ≡ members (("op", string (codes "add-method")) ∷ ("owner", id_data owner) ∷ ("params", params_data params)
+      ∷ ("result", texts_data result) ∷ ("words", texts_data words.texts) ∷ [])
   pub owner_formed : is_id owner ≡ true
   pub params_formed : are_param_rows params ≡ true
   pub words_formed : are_words kept_words words.texts ≡ true
 
 module _ (body : Option (List (List ℕ))) (decl : Id) (kind : MethodKind) (method : Id) (name : List ℕ) (notes : Notes) where
-  tail_found : (ms : Members) (row : Row) → method_tail body decl kind method name notes ms ≡ Some (row, no_members) → TailFound body decl kind method name notes ms row
+  tail_found : (ms : Members) (row : Row) → method_tail body decl kind method name notes ms ≡ Some (row, no_members)
+      → TailFound body decl kind method name notes ms row
   tail_found ms row e =
       let op_at = step (codes "op") (same_from (codes "add-method")) _ ms (row, no_members) e in
       let owner_at = step (codes "owner") id_from _ op_at.rest (row, no_members) op_at.more in
@@ -140,7 +158,8 @@ module _ (body : Option (List (List ℕ))) (decl : Id) (kind : MethodKind) (meth
       let params_is = params_found params_at.found params_at.value params_at.read in
       let result_is = texts_found result_at.found result_at.value result_at.read in
       let words_is = words_found kept_words words_at.found words_at.value words_at.read in
-      let end = pure_is (method_of body decl kind method name notes owner_at.value params_at.value result_at.value words_at.value) row words_at.rest no_members words_at.more in
+      let end = pure_is (method_of body decl kind method name notes owner_at.value params_at.value result_at.value words_at.value) row
+      words_at.rest no_members words_at.more in
       let from_words = follow words_at.is words_is.0 end.1 in
       let from_result = follow result_at.is result_is from_words in
       let from_params = follow params_at.is params_is.0 from_result in
@@ -165,7 +184,8 @@ add_method_found ms row e =
     let method_at = step (codes "method") id_from _ kind_at.rest (row, no_members) kind_at.more in
     let name_at = step (codes "name") name_from _ method_at.rest (row, no_members) method_at.more in
     let notes_at = step (codes "notes") member_notes_from _ name_at.rest (row, no_members) name_at.more in
-    let tail = tail_found body_at.value decl_at.value kind_at.value method_at.value name_at.value notes_at.value notes_at.rest row notes_at.more in
+    let tail = tail_found body_at.value decl_at.value kind_at.value method_at.value name_at.value notes_at.value notes_at.rest row
+    notes_at.more in
     let body_is = maybe_found body_at.found body_at.value body_at.read in
     let decl_is = id_found decl_at.found decl_at.value decl_at.read in
     let kind_is = kind_found kind_at.found kind_at.value kind_at.read in
@@ -178,9 +198,11 @@ add_method_found ms row e =
     let from_kind = follow kind_at.is kind_is.0 from_method in
     let from_decl = follow decl_at.is decl_is.0 from_kind in
     let from_body = follow body_at.is body_is from_decl in
-    let made : Row = method_of body_at.value decl_at.value kind_at.value method_at.value name_at.value notes_at.value tail.owner tail.params tail.result tail.words in
+    let made : Row = method_of body_at.value decl_at.value kind_at.value method_at.value name_at.value notes_at.value tail.owner tail.params
+    tail.result tail.words in
     let formed : is_row made ≡ true =
-    and_true (and_true (and_true (and_true (and_true (and_true (and_true method_is.1 decl_is.1) tail.owner_formed) name_is.1) kind_is.1) tail.params_formed) tail.words_formed) notes_is.1 in
+    and_true (and_true (and_true (and_true (and_true (and_true (and_true method_is.1 decl_is.1) tail.owner_formed) name_is.1) kind_is.1)
+    tail.params_formed) tail.words_formed) notes_is.1 in
     record { is = from_body ∙ ap (λ r. members (row_pairs r)) tail.made; formed = ap is_row (sym tail.made) ∙ formed }
 
 add_override_found : (ms : Members) (row : Row) → row_reader.add_override ms ≡ Some (row, no_members) → IsFound ms row
@@ -199,7 +221,14 @@ add_override_found ms row e =
     let op_is = same_found (codes "add-override") op_at.found op_at.value op_at.read in
     let owner_is = id_found owner_at.found owner_at.value owner_at.read in
     let words_is = words_found kept_words words_at.found words_at.value words_at.read in
-    let made : Row = rows.AddOverride (record { decl = decl_at.value; method = method_at.value; owner = owner_at.value; words = words_at.value; notes = notes_at.value; body = body_at.value }) in
+    let made : Row = rows.AddOverride (record {
+      decl = decl_at.value;
+      method = method_at.value;
+      owner = owner_at.value;
+      words = words_at.value;
+      notes = notes_at.value;
+      body = body_at.value;
+    }) in
     let end = pure_is made row words_at.rest no_members words_at.more in
     let from_words = follow words_at.is words_is.0 end.1 in
     let from_owner = follow owner_at.is owner_is.0 from_words in
@@ -229,7 +258,15 @@ add_constructor_found ms row e =
     let owner_is = id_found owner_at.found owner_at.value owner_at.read in
     let params_is = params_found params_at.found params_at.value params_at.read in
     let words_is = words_found constructor_words words_at.found words_at.value words_at.read in
-    let made : Row = rows.AddConstructor (record { method = method_at.value; decl = decl_at.value; owner = owner_at.value; params = params_at.value; words = words_at.value; notes = notes_at.value; body = body_at.value }) in
+    let made : Row = rows.AddConstructor (record {
+      method = method_at.value;
+      decl = decl_at.value;
+      owner = owner_at.value;
+      params = params_at.value;
+      words = words_at.value;
+      notes = notes_at.value;
+      body = body_at.value;
+    }) in
     let end = pure_is made row words_at.rest no_members words_at.more in
     let from_words = follow words_at.is words_is.0 end.1 in
     let from_params = follow params_at.is params_is.0 from_words in
@@ -239,7 +276,8 @@ add_constructor_found ms row e =
     let from_method = follow method_at.is method_is.0 from_notes in
     let from_decl = follow decl_at.is decl_is.0 from_method in
     let from_body = follow body_at.is body_is from_decl in
-    let formed : is_row made ≡ true = and_true (and_true (and_true (and_true (and_true method_is.1 decl_is.1) owner_is.1) params_is.1) words_is.1) notes_is.1 in
+    let formed : is_row made ≡ true =
+    and_true (and_true (and_true (and_true (and_true method_is.1 decl_is.1) owner_is.1) params_is.1) words_is.1) notes_is.1 in
     record { is = from_body ∙ ap (λ r. members (row_pairs r)) end.0; formed = ap is_row (sym end.0) ∙ formed }
 
 delete_found : (ms : Members) (row : Row) → row_reader.delete ms ≡ Some (row, no_members) → IsFound ms row
@@ -383,10 +421,12 @@ abbrev AllFind : List NamedReader → Type 0
 AllFind [] = Unit {0}
 AllFind (entry ∷ table) = Finds entry × AllFind table
 
-in_table : (table : List NamedReader) → AllFind table → (name : List ℕ) (ms : Members) (row : Row) → row_in table name ms ≡ Some (row, no_members) → IsFound ms row
+in_table : (table : List NamedReader) → AllFind table → (name : List ℕ) (ms : Members) (row : Row)
+    → row_in table name ms ≡ Some (row, no_members) → IsFound ms row
 in_table [] all name ms row e = absurd cc
 in_table (entry ∷ table) all name ms row e = by (bytes_eq name (codes entry.0)) (all.0 ms row) (in_table table all.1 name ms row) e where
-  by : (b : Bool) → (entry.1 ms ≡ Some (row, no_members) → IsFound ms row) → (row_in table name ms ≡ Some (row, no_members) → IsFound ms row)
+  by : (b : Bool) → (entry.1 ms ≡ Some (row, no_members) → IsFound ms row)
+      → (row_in table name ms ≡ Some (row, no_members) → IsFound ms row)
       → (if b then entry.1 ms else row_in table name ms) ≡ Some (row, no_members) → IsFound ms row
   by true here later e = here e
   by false here later e = later e
@@ -419,12 +459,14 @@ table_found = (
 )
 
 -- what a reader took before the next one
-after : {A B : Type 0} (o : Outcome A) (next : A → Reader B) (p : B × Members) → and_then o next ≡ Some p → (a : A) × (mid : Members) × (o ≡ Some (a, mid)) × (next a mid ≡ Some p)
+after : {A B : Type 0} (o : Outcome A) (next : A → Reader B) (p : B × Members) → and_then o next ≡ Some p → (a : A) × (mid : Members)
+    × (o ≡ Some (a, mid)) × (next a mid ≡ Some p)
 unfolding and_then
 after None next p e = absurd cc
 after (Some q) next p e = (q.0, q.1, refl, e)
 
-named_found : (name : List ℕ) (ms : Members) (found : Recorded) → recorded name ms ≡ Some (found, no_members) → (object ms ≡ row_data found.stamp found.row) × (is_stamp found.stamp ≡ true) × (is_row found.row ≡ true)
+named_found : (name : List ℕ) (ms : Members) (found : Recorded) → recorded name ms ≡ Some (found, no_members)
+    → (object ms ≡ row_data found.stamp found.row) × (is_stamp found.stamp ≡ true) × (is_row found.row ≡ true)
 named_found name ms found e =
     let at = step (codes "at") stamp_from _ ms (found, no_members) e in
     let at_is = stamp_found at.found at.value at.read in
@@ -432,8 +474,11 @@ named_found name ms found e =
     let end = pure_is (recorded_of at.value row.0) found row.1 no_members row.3 in
     let read : row_named name at.rest ≡ Some (row.0, no_members) = row.2 ∙ ap (λ ms. Some (before ms row.0)) end.1 in
     let is = in_table row_table table_found name at.rest row.0 read in
-    let pairs = follow at.is at_is.0 is.is in
-    (ap object pairs ∙ ap (λ (r : Recorded). row_data r.stamp r.row) end.0, ap (λ (r : Recorded). is_stamp r.stamp) (sym end.0) ∙ at_is.1, ap (λ (r : Recorded). is_row r.row) (sym end.0) ∙ is.formed)
+    let pairs = follow at.is at_is.0 is.is in (
+      ap object pairs ∙ ap (λ (r : Recorded). row_data r.stamp r.row) end.0,
+      ap (λ (r : Recorded). is_stamp r.stamp) (sym end.0) ∙ at_is.1,
+      ap (λ (r : Recorded). is_row r.row) (sym end.0) ∙ is.formed,
+    )
 
 -- what is read of data as a stamp and a row is what it is the object of
 pub recorded_found : (said : Data) (found : Recorded) → recorded_from said ≡ Some found → IsRow said found.stamp found.row

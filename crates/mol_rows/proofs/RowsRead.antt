@@ -37,51 +37,105 @@ module _ (stamp : Stamp) (is : is_stamp stamp ≡ true) where
   add_class_read : (row : AddClassRow) → is_row (rows.AddClass row) ≡ true → IsRead (rows.AddClass row)
   unfolding part and_then
   add_class_read row formed =
-      let t4 = both_true (is_id row.class && is_dotted row.package && is_name row.name && are_words class_words row.words.texts) (are_class_notes row.notes) formed in
+      let t4 = both_true (is_id row.class && is_dotted row.package && is_name row.name && are_words class_words row.words.texts)
+      (are_class_notes row.notes) formed in
       let t3 = both_true (is_id row.class && is_dotted row.package && is_name row.name) (are_words class_words row.words.texts) t4.0 in
       let t2 = both_true (is_id row.class && is_dotted row.package) (is_name row.name) t3.0 in
       let t1 = both_true (is_id row.class) (is_dotted row.package) t2.0 in
-      rw (stamp_read stamp is, id_read row.class t1.0, t2.1, class_notes_read row.notes t4.1, t1.1, maybe_read row.parent, words_read class_words row.words t3.1) refl
+      rw (
+        stamp_read stamp is,
+        id_read row.class t1.0,
+        t2.1,
+        class_notes_read row.notes t4.1,
+        t1.1,
+        maybe_read row.parent,
+        words_read class_words row.words t3.1,
+      ) refl
 
   add_field_read : (row : AddFieldRow) → is_row (rows.AddField row) ≡ true → IsRead (rows.AddField row)
   unfolding part and_then
   add_field_read row formed =
-      let t4 = both_true (is_id row.field && is_id row.owner && is_name row.name && are_words field_words row.words.texts) (are_member_notes row.notes) formed in
+      let t4 = both_true (is_id row.field && is_id row.owner && is_name row.name && are_words field_words row.words.texts)
+      (are_member_notes row.notes) formed in
       let t3 = both_true (is_id row.field && is_id row.owner && is_name row.name) (are_words field_words row.words.texts) t4.0 in
       let t2 = both_true (is_id row.field && is_id row.owner) (is_name row.name) t3.0 in
       let t1 = both_true (is_id row.field) (is_id row.owner) t2.0 in
-      rw (stamp_read stamp is, id_read row.field t1.0, t2.1, notes_read row.notes t4.1, id_read row.owner t1.1, texts_read row.ty, maybe_read row.value, words_read field_words row.words t3.1) refl
+      rw (
+        stamp_read stamp is,
+        id_read row.field t1.0,
+        t2.1,
+        notes_read row.notes t4.1,
+        id_read row.owner t1.1,
+        texts_read row.ty,
+        maybe_read row.value,
+        words_read field_words row.words t3.1,
+      ) refl
 
   add_method_read : (row : AddMethodRow) → is_row (rows.AddMethod row) ≡ true → IsRead (rows.AddMethod row)
   unfolding part and_then
   add_method_read row formed =
-      let t7 = both_true (is_id row.method && is_id row.decl && is_id row.owner && is_name row.name && is_kind row.kind && are_param_rows row.params && are_words kept_words row.words.texts) (are_member_notes row.notes) formed in
-      let t6 = both_true (is_id row.method && is_id row.decl && is_id row.owner && is_name row.name && is_kind row.kind && are_param_rows row.params) (are_words kept_words row.words.texts) t7.0 in
-      let t5 = both_true (is_id row.method && is_id row.decl && is_id row.owner && is_name row.name && is_kind row.kind) (are_param_rows row.params) t6.0 in
+      let t7 = both_true (is_id row.method && is_id row.decl && is_id row.owner && is_name row.name && is_kind row.kind
+      && are_param_rows row.params && are_words kept_words row.words.texts) (are_member_notes row.notes) formed in
+      let t6 = both_true (is_id row.method && is_id row.decl && is_id row.owner && is_name row.name && is_kind row.kind
+      && are_param_rows row.params) (are_words kept_words row.words.texts) t7.0 in
+      let t5 = both_true (is_id row.method && is_id row.decl && is_id row.owner && is_name row.name && is_kind row.kind)
+      (are_param_rows row.params) t6.0 in
       let t4 = both_true (is_id row.method && is_id row.decl && is_id row.owner && is_name row.name) (is_kind row.kind) t5.0 in
       let t3 = both_true (is_id row.method && is_id row.decl && is_id row.owner) (is_name row.name) t4.0 in
       let t2 = both_true (is_id row.method && is_id row.decl) (is_id row.owner) t3.0 in
       let t1 = both_true (is_id row.method) (is_id row.decl) t2.0 in
-      rw (stamp_read stamp is, maybe_read row.body, id_read row.decl t1.1, kind_read row.kind t4.1, id_read row.method t1.0, t3.1, notes_read row.notes t7.1, id_read row.owner t2.1, params_read row.params t5.1, texts_read row.result, words_read kept_words row.words t6.1) refl
+      rw (
+        stamp_read stamp is,
+        maybe_read row.body,
+        id_read row.decl t1.1,
+        kind_read row.kind t4.1,
+        id_read row.method t1.0,
+        t3.1,
+        notes_read row.notes t7.1,
+        id_read row.owner t2.1,
+        params_read row.params t5.1,
+        texts_read row.result,
+        words_read kept_words row.words t6.1,
+      ) refl
 
   add_override_read : (row : AddOverrideRow) → is_row (rows.AddOverride row) ≡ true → IsRead (rows.AddOverride row)
   unfolding part and_then
   add_override_read row formed =
-      let t4 = both_true (is_id row.decl && is_id row.method && is_id row.owner && are_words kept_words row.words.texts) (are_member_notes row.notes) formed in
+      let t4 = both_true (is_id row.decl && is_id row.method && is_id row.owner && are_words kept_words row.words.texts)
+      (are_member_notes row.notes) formed in
       let t3 = both_true (is_id row.decl && is_id row.method && is_id row.owner) (are_words kept_words row.words.texts) t4.0 in
       let t2 = both_true (is_id row.decl && is_id row.method) (is_id row.owner) t3.0 in
       let t1 = both_true (is_id row.decl) (is_id row.method) t2.0 in
-      rw (stamp_read stamp is, maybe_read row.body, id_read row.decl t1.0, id_read row.method t1.1, notes_read row.notes t4.1, id_read row.owner t2.1, words_read kept_words row.words t3.1) refl
+      rw (
+        stamp_read stamp is,
+        maybe_read row.body,
+        id_read row.decl t1.0,
+        id_read row.method t1.1,
+        notes_read row.notes t4.1,
+        id_read row.owner t2.1,
+        words_read kept_words row.words t3.1,
+      ) refl
 
   add_constructor_read : (row : AddConstructorRow) → is_row (rows.AddConstructor row) ≡ true → IsRead (rows.AddConstructor row)
   unfolding part and_then
   add_constructor_read row formed =
-      let t5 = both_true (is_id row.method && is_id row.decl && is_id row.owner && are_param_rows row.params && are_words constructor_words row.words.texts) (are_member_notes row.notes) formed in
-      let t4 = both_true (is_id row.method && is_id row.decl && is_id row.owner && are_param_rows row.params) (are_words constructor_words row.words.texts) t5.0 in
+      let t5 = both_true (is_id row.method && is_id row.decl && is_id row.owner && are_param_rows row.params
+      && are_words constructor_words row.words.texts) (are_member_notes row.notes) formed in
+      let t4 = both_true (is_id row.method && is_id row.decl && is_id row.owner && are_param_rows row.params)
+      (are_words constructor_words row.words.texts) t5.0 in
       let t3 = both_true (is_id row.method && is_id row.decl && is_id row.owner) (are_param_rows row.params) t4.0 in
       let t2 = both_true (is_id row.method && is_id row.decl) (is_id row.owner) t3.0 in
       let t1 = both_true (is_id row.method) (is_id row.decl) t2.0 in
-      rw (stamp_read stamp is, maybe_read row.body, id_read row.decl t1.1, id_read row.method t1.0, notes_read row.notes t5.1, id_read row.owner t2.1, params_read row.params t3.1, words_read constructor_words row.words t4.1) refl
+      rw (
+        stamp_read stamp is,
+        maybe_read row.body,
+        id_read row.decl t1.1,
+        id_read row.method t1.0,
+        notes_read row.notes t5.1,
+        id_read row.owner t2.1,
+        params_read row.params t3.1,
+        words_read constructor_words row.words t4.1,
+      ) refl
 
   delete_read : (row : DeleteRow) → is_row (rows.Delete row) ≡ true → IsRead (rows.Delete row)
   unfolding part and_then

@@ -4,7 +4,8 @@ use Rattle.serde_json.specs.Data.{Members}
 use Rattle.mol_lines.specs.Reader.{Outcome, Reader, and_then, before}
 
 -- where something is read, the next reader goes on behind it
-pub and_on : {A B : Type 0} (o : Outcome A) (next : A → Reader B) (a : A) (ms : Members) → o ≡ Some (before ms a) → and_then o next ≡ next a ms
+pub and_on : {A B : Type 0} (o : Outcome A) (next : A → Reader B) (a : A) (ms : Members) → o ≡ Some (before ms a)
+    → and_then o next ≡ next a ms
 unfolding and_then
 and_on o next a ms e = ap (λ o. and_then o next) e
 

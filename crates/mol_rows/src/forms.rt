@@ -5,21 +5,8 @@ ghost use Rattle.mol_table.specs.TokenForms as spec;
 ghost use Rattle.mol_table.specs.Words.{are_words as are_words_of};
 ghost use Rattle.mol_rows.specs.RowForms.{words_before};
 
-use mol_base::{Modified, Text, TokenKind, are_in_order, text_kind};
-
-/// Whether the bytes are an identifier: one token, no keyword, at most 255 bytes (JLS 3.8).
-pub fn is_name(bytes: &[u8]) -> bool
-    ensures { result ≡ spec.is_name bytes.now }
-{
-    matches!(text_kind(bytes), Some(TokenKind::Word))
-}
-
-/// Whether the bytes are identifiers joined by dots.
-pub fn is_dotted(bytes: &[u8]) -> bool
-    ensures { result ≡ spec.is_dotted bytes.now }
-{
-    bytes.split(|byte| *byte == b'.').all(|part| is_name(part))
-}
+use mol_base::{Modified, Text, are_in_order};
+use mol_table::{is_comment, is_literal};
 
 /// Whether the bytes are a literal, or `-` and a number.
 pub fn is_filler(bytes: &[u8]) -> bool
@@ -38,13 +25,6 @@ fn is_negative(bytes: &[u8]) -> bool
     }
 }
 
-/// Whether the bytes are a literal (JLS 3.10).
-fn is_literal(bytes: &[u8]) -> bool
-    ensures { result ≡ spec.is_literal bytes.now }
-{
-    matches!(text_kind(bytes), Some(TokenKind::Literal))
-}
-
 /// Whether the bytes are a literal that begins with a digit.
 fn is_number(bytes: &[u8]) -> bool
     ensures { result ≡ spec.is_number bytes.now }
@@ -59,7 +39,7 @@ fn is_number(bytes: &[u8]) -> bool
 pub fn are_comments(texts: &[Text]) -> bool
     ensures { result ≡ spec.are_comments texts.now }
 {
-    texts.iter().all(|text| matches!(text_kind(text.bytes()), Some(TokenKind::Comment)))
+    texts.iter().all(|text| is_comment(text.bytes()))
 }
 
 /// Whether the texts are modifiers that may stand before this, in the order in which they are printed. A row has

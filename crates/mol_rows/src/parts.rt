@@ -10,9 +10,10 @@ ghost use Rattle.mol_rows.specs.RowForms.{words_before};
 ghost use Rattle.mol_rows.specs.RowReader as reader;
 
 use crate::ParamRow;
-use crate::forms::{are_comments, are_words, is_dotted, is_filler, is_name};
+use crate::forms::{are_comments, are_words, is_filler};
 use mol_base::{List, MAX_ITEMS, Modified, Text};
 use mol_lines::{Members, ObjectFault, items};
+use mol_table::{is_dotted, is_name};
 use mol_values::{MethodKind, Notes, Words};
 use serde_json::Value;
 use std::alloc::Global;

@@ -58,20 +58,9 @@ pub(crate) fn all_known(types: &[SeenType]) -> bool
     ensures { result ≡ not (list_any (λ ty. is_unread (view_type ty)) types.now) }
 {
     for ty in types {
-        if is_unread(ty) {
+        if ty.is_unread() {
             return false;
         }
     }
     true
-}
-
-/// Whether the name of a type reads as nothing, or that of the items of an array does.
-fn is_unread(ty: &SeenType) -> bool
-    ensures { result ≡ is_unread (view_type ty.now) }
-{
-    match ty {
-        SeenType::Unread => true,
-        SeenType::Array(item) => is_unread(item.get()),
-        _ => false,
-    }
 }

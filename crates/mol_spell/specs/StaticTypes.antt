@@ -43,8 +43,8 @@ abbrev pub param_value : Program → Id → StaticType Id
 param_value program id = option_map_or (λ (param : Param). of_type (seen param.ty)) (present_param program id) mixed_value
 
 -- the class in which a constructor is declared
-abbrev pub class_of_constructor : Program → Id → Option Id
-class_of_constructor program constructor =
+abbrev pub class_of_only_declaration : Program → Id → Option Id
+class_of_only_declaration program constructor =
     option_and_then (λ (entry : Id × Known). owner_at program entry.0)
     (find (λ (entry : Id × Known). is_decl_of constructor entry.1) (entries program.known))
 
@@ -64,7 +64,7 @@ module _ (program : Program) (class : Id) (locals : List (ViewType Id)) where
   expr_step (IExpr-F.StaticCall method args) = result_value program method
   expr_step (IExpr-F.CallOn method e args) = result_value program method
   expr_step (IExpr-F.SuperCall method args) = result_value program method
-  expr_step (IExpr-F.New constructor args) = option_map_or class_value (class_of_constructor program constructor) mixed_value
+  expr_step (IExpr-F.New constructor args) = option_map_or class_value (class_of_only_declaration program constructor) mixed_value
   expr_step (IExpr-F.NewDefault created) = class_value created
   expr_step (IExpr-F.Cond test a b) = common (program_view program) a b
   expr_step (IExpr-F.OutsideName name) = outside_value

@@ -22,7 +22,7 @@ use Rattle.mol_spell.proofs.ReadEquations.{reads-Name, reads-Dot}
 use Rattle.mol_spell.specs.Locals.{no_locals}
 use Rattle.mol_spell.specs.Readers.{Reader}
 use Rattle.mol_spell.specs.ReadTrees.{Meant, Reading}
-use Rattle.mol_spell.specs.StaticTypes.{class_of_constructor}
+use Rattle.mol_spell.specs.StaticTypes.{class_of_only_declaration}
 use Rattle.mol_spelling.proofs.ExampleRows.{base, int, class_in, field_in, method_in, in_class}
 use Rattle.mol_spelling.proofs.SetItems.{set-is}
 use Rattle.mol_spelling.proofs.SpelledEquations.{spelled-StaticCall, type-Imported}
@@ -149,7 +149,7 @@ under_a = record (in_class two_xs (class_in 3 "p" "U")) { params = record { name
 
 module _ (program : Program) (first : name_at program (base 1) ≡ codes "X") (second : name_at program (base 2) ≡ codes "X")
     (packed : package_at program (base 1) ≡ codes "a") (near : near_class program (base 3) (codes "X") ≡ None)
-    (named : name_at program (base 7) ≡ codes "m") (owned : class_of_constructor program (base 7) ≡ Some (base 1)) where
+    (named : name_at program (base 7) ≡ codes "m") (owned : class_of_only_declaration program (base 7) ≡ Some (base 1)) where
   abbrev both_used : List Use
   both_used = used (program_class (base 1)) ∷ used (program_class (base 2)) ∷ []
 

@@ -16,7 +16,7 @@ use Rattle.jav_view.specs.OnValues.{class_value, outside_value}
 use Rattle.jav_view.specs.Views.{ViewType, primitive_type, void_type, class_type, outside_type, ViewClass, ViewField, DeclarationKind, instance_method, static_method, ViewDeclaration, View}
 use Rattle.mol_spell.specs.Locals.{Locals, no_locals, declare}
 use Rattle.mol_spell.specs.Readers.{Reader}
-use Rattle.mol_spell.specs.StaticTypes.{class_of_constructor}
+use Rattle.mol_spell.specs.StaticTypes.{class_of_only_declaration}
 use Rattle.mol_spelling.proofs.SpelledEquations.{of_parts, argument-is, spelled-Lit, spelled-Local, spelled-Own, spelled-NewDefault, spelled-OutsideName, spelled-StaticCall, spelled-OutsideCallOn, type-Class}
 use Rattle.mol_spelling.specs.Answers.{answer}
 use Rattle.mol_spelling.specs.SpelledExpressions.{made, name_tree, dot_tree, spelled_expr, reference, plain}
@@ -148,7 +148,7 @@ module _ (program : Program) where
   -- the local goes before the class, so that the class is written in full
   module _ (tax_named : name_at program (base 12) ≡ codes "tax") (desk_named : name_at program (base 2) ≡ codes "Desk")
       (desk_packed : package_at program (base 2) ≡ codes "shop")
-      (tax_owned : class_of_constructor program (base 12) ≡ Some (base 2)) where
+      (tax_owned : class_of_only_declaration program (base 12) ≡ Some (base 2)) where
     tax-written : (spelled_expr (writer in_total) with_desk tax_call).tree
         ≡ made (node.Call (Some (dot_tree (name_tree (codes "shop")) (codes "Desk"))) (codes "tax") (name_tree (codes "Desk") ∷ []))
     tax-written = ap (λ part. part.tree) tax-parts ∙ simp (tax_named, tax_owned, desk_named, desk_packed) refl

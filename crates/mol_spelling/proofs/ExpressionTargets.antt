@@ -18,7 +18,7 @@ use Rattle.mol_spell.specs.Locals.{Local, Locals}
 use Rattle.mol_spell.specs.ProgramViews.{seen, program_view}
 use Rattle.mol_spell.specs.ReadTrees.{Mode, before, arrays, unary_type}
 use Rattle.mol_spell.specs.StaticTypes as static
-use Rattle.mol_spell.specs.StaticTypes.{static_type_of, class_of_constructor}
+use Rattle.mol_spell.specs.StaticTypes.{static_type_of, class_of_only_declaration}
 use Rattle.mol_spelling.proofs.TypeTargets.{targets, both, type-targets}
 use Rattle.mol_spelling.specs.SpelledExpressions.{SpelledExpr, MemberForm, by_name, on_this, on_class, hides, type_here, own_form, static_form, call_form, static_call_form, field_reference, call_reference, constructor_reference, after, each_alone, name_of, references_step, expr_step, argument_step, spelled_expr}
 use Rattle.mol_spelling.specs.Writers.{Writer, type_asked, constructor_asked, field_asked, method_asked, Reference}
@@ -200,7 +200,7 @@ module _ (writer : Writer) (locals : Locals Id) where
       (refl, λ mode. ap (λ rest. method_target method ∷ rest) (each_argument args), λ h. absurd h)
   layer (IExpr-F.New constructor args) = from (IExpr-F.New constructor (arguments_in args)) (
     refl,
-    λ mode i. constructor-target (class_of_constructor writer.program constructor) constructor (argument_count args) i
+    λ mode i. constructor-target (class_of_only_declaration writer.program constructor) constructor (argument_count args) i
         ∷ each_argument args i,
     λ h. absurd h,
   )

@@ -16,7 +16,7 @@ use Rattle.mol_values.specs.declared.cell.Slot.TheVariants as slots
 use Rattle.mol_spelling.proofs.FilesOrdered.{then_both}
 use Rattle.mol_spelling.proofs.SetItems.{same-members}
 use Rattle.mol_spelling.specs.Clean.{Clean}
-use Rattle.mol_spelling.specs.FaultList.{FaultTarget, entity, default_of, local_of, outside_of, told, Fault, same_address, false_override, apart, outside_name, missing, misread, local_clash, package_is_class, IsFault, by_address, by_override, by_place, by_outside_name, by_absence, by_reading, by_local, by_package, FaultKey, fault_key_cmp, fault_key, AreFaults}
+use Rattle.mol_spelling.specs.FaultList.{FaultTarget, entity, default_of, local_of, outside_of, fault_target, Fault, same_address, false_override, apart, outside_name, missing, misread, local_clash, package_is_class, IsFault, by_address, by_override, by_place, by_outside_name, by_absence, by_reading, by_local, by_package, FaultKey, fault_key_cmp, fault_key, AreFaults}
 use Rattle.mol_spelling.specs.Laws.{FaultsDetermined}
 
 -- ---- keys of faults
@@ -116,7 +116,7 @@ is-clean program none = record {
   together = λ method h. none (apart method) (by_place h);
   names = λ method h. none (outside_name method) (by_outside_name h);
   present = λ at target h. none (missing at target) (by_absence h);
-  read = λ at number target h. none (misread at number (told target)) (by_reading h);
+  read = λ at number target h. none (misread at number (fault_target target)) (by_reading h);
   locals = λ at name h. none (local_clash at name) (by_local h);
   packages = λ class inside h. none (package_is_class class inside) (by_package h);
 }

@@ -22,14 +22,14 @@ pub data FaultTarget : Type 0 where
   local_of : ℕ → FaultTarget
   outside_of : Name → FaultTarget
 
-abbrev pub told : Target → FaultTarget
-told (class_target class) = entity class
-told (field_target field) = entity field
-told (method_target method) = entity method
-told (param_target param) = entity param
-told (default_target class) = default_of class
-told (local_target number) = local_of number
-told (outside_target text) = outside_of text
+abbrev pub fault_target : Target → FaultTarget
+fault_target (class_target class) = entity class
+fault_target (field_target field) = entity field
+fault_target (method_target method) = entity method
+fault_target (param_target param) = entity param
+fault_target (default_target class) = default_of class
+fault_target (local_target number) = local_of number
+fault_target (outside_target text) = outside_of text
 
 pub data Fault : Type 0 where
   same_address : Id → Id → Fault
@@ -49,7 +49,7 @@ pub data IsFault (program : Program) : Fault → Type 0 where
   by_outside_name : {method : Id} → OutsideName program method → IsFault program (outside_name method)
   by_absence : {at : Cell} {target : Id} → Missing program at target → IsFault program (missing at target)
   by_reading : {at : Cell} {number : ℕ} {target : Target} → Misread program at number target
-      → IsFault program (misread at number (told target))
+      → IsFault program (misread at number (fault_target target))
   by_local : {at : Cell} {name : Name} → LocalClash program at name → IsFault program (local_clash at name)
   by_package : {class inside : Id} → PackageIsClass program class inside → IsFault program (package_is_class class inside)
 

@@ -5,9 +5,9 @@ use Rattle.mol_spell.specs.ReadAs.{SourceText}
 use Rattle.mol_table.specs.Program.{Program}
 use Rattle.mol_spelling.specs.SpelledUnits.{SpelledUnit, spelling}
 
-abbrev pub text_of : SpelledUnit → SourceText
-text_of unit = record { path = unit.path; bytes = unit_text unit.unit }
+abbrev pub printed_text : SpelledUnit → SourceText
+printed_text unit = record { path = unit.path; bytes = unit_text unit.unit }
 
 -- the files of a program, by their paths
 abbrev pub printed_files : Program → List SourceText
-printed_files program = map text_of (spelling program)
+printed_files program = map printed_text (spelling program)

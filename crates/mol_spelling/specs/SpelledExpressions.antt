@@ -24,7 +24,7 @@ use Rattle.mol_spell.specs.Locals.{Local, Locals}
 use Rattle.mol_spell.specs.Readers.{Reader, place_of}
 use Rattle.mol_spell.specs.ReadTrees.{Mode, followers, before}
 use Rattle.mol_spell.specs.StaticTypes as static
-use Rattle.mol_spell.specs.StaticTypes.{present_param, class_of_constructor}
+use Rattle.mol_spell.specs.StaticTypes.{present_param, class_of_only_declaration}
 use Rattle.mol_spelling.specs.SpelledTypes.{SpelledType, spelled_type}
 use Rattle.mol_spelling.specs.Writers.{Importable, program_class, outside_import, Writer, is_hidden, spelled, text_of, Use, use_of, written_use, Asked, type_asked, name_asked, name_before_asked, path_asked, static_field_asked, static_method_asked, field_asked, method_asked, call_asked, super_method_asked, constructor_asked, index_asked, Reference}
 
@@ -135,7 +135,7 @@ module _ (writer : Writer) (locals : Locals Id) where
   -- A static method has one declaration, as a constructor has.
   abbrev pub static_call_form : Id → ℕ → MemberForm
   static_call_form method arity =
-      if reads_method method arity then by_name else on_owner (class_of_constructor writer.program method)
+      if reads_method method arity then by_name else on_owner (class_of_only_declaration writer.program method)
 
   -- ---- trees
 
@@ -147,7 +147,7 @@ module _ (writer : Writer) (locals : Locals Id) where
 
   -- what stands after `new`
   abbrev pub constructor_text : Id → Name
-  constructor_text constructor = option_map_or class_text (class_of_constructor writer.program constructor) no_name
+  constructor_text constructor = option_map_or class_text (class_of_only_declaration writer.program constructor) no_name
 
   abbrev pub param_name : Id → Name
   param_name id = option_map_or (λ (param : Param). param.name) (present_param writer.program id) no_name
@@ -276,7 +276,7 @@ module _ (writer : Writer) (locals : Locals Id) where
   references_step (IExpr-F.SuperCall method args) mode =
       plain (method_target method) (super_method_asked (name_of method) (length args)) ∷ each_alone args
   references_step (IExpr-F.New constructor args) mode =
-      constructor_reference (class_of_constructor writer.program constructor) constructor (length args) ∷ each_alone args
+      constructor_reference (class_of_only_declaration writer.program constructor) constructor (length args) ∷ each_alone args
   references_step (IExpr-F.NewDefault class) mode =
       using (program_class class) (default_target class) (constructor_asked (class_text class) 0) ∷ []
   references_step (IExpr-F.Cond test a b) mode = alone test ++ alone a ++ alone b

@@ -19,7 +19,7 @@ use Rattle.mol_values.specs.declared.known.Known.TheVariants as knowns
 use Rattle.mol_values.specs.declared.value.Value.{Value}
 use Rattle.jav_view.specs.DottedNames.{Name}
 use Rattle.mol_spelling.specs.DefaultCreations.{default_creations}
-use Rattle.mol_spelling.specs.FaultList.{FaultTarget, Fault, same_address, false_override, apart, outside_name, missing, misread, local_clash, package_is_class, told}
+use Rattle.mol_spelling.specs.FaultList.{FaultTarget, Fault, same_address, false_override, apart, outside_name, missing, misread, local_clash, package_is_class, fault_target}
 use Rattle.mol_spelling.specs.NameFaults.{unit_reader, MisreadIn}
 use Rattle.mol_spelling.specs.ReadInstead.{instead}
 
@@ -115,10 +115,10 @@ pub record HeaderCell (program : Program) (id : Id) (at : Cell) : Type 0 where
 
 -- A reference that is misread is to have this target; or in one of the files where its cell prints it reads as this one instead.
 pub data IsMetBy (program : Program) (at : Cell) (number : ℕ) (recorded : FaultTarget) : Target → Type 0 where
-  is_recorded : {class : Id} {target : Target} → told target ≡ recorded → MisreadIn (tidy program) class at number target
+  is_recorded : {class : Id} {target : Target} → fault_target target ≡ recorded → MisreadIn (tidy program) class at number target
       → IsMetBy program at number recorded target
   read_instead : {class : Id} {target other : Target} (misread : MisreadIn (tidy program) class at number target)
-      → told target ≡ recorded → instead (unit_reader (tidy program) class at) misread.reference ≡ Some other
+      → fault_target target ≡ recorded → instead (unit_reader (tidy program) class at) misread.reference ≡ Some other
       → IsMetBy program at number recorded other
 
 -- ---- all of them

@@ -37,7 +37,8 @@ abbrev pub ids : List Param → List Id
 ids params = map (λ (param : Param). param.id) params
 
 -- an argument for none of the parameters is looked up for none of them
-passed-over : (argument : Argument) (args : List Argument) (params : List Param) → list_any (same_id argument.param) (ids params) ≡ false → arguments_for params (argument ∷ args) ≡ arguments_for params args
+pub passed-over : (argument : Argument) (args : List Argument) (params : List Param)
+    → list_any (same_id argument.param) (ids params) ≡ false → arguments_for params (argument ∷ args) ≡ arguments_for params args
 passed-over argument args [] apart = refl
 passed-over argument args (param ∷ params) apart =
     let parts = neither (same_id argument.param param.id) (list_any (same_id argument.param) (ids params)) apart in

@@ -7,6 +7,7 @@ mod maps;
 mod renumber;
 mod table;
 mod tidy;
+mod token_form;
 
 pub use entity::NewEntity;
 pub use mol_values::{
@@ -14,3 +15,4 @@ pub use mol_values::{
     IStmtNode, IType, Kind, Known, MethodKind, Notes, Param, Slot, Value, Words,
 };
 pub use table::Table;
+pub use token_form::{is_comment, is_dotted, is_literal, is_name};

@@ -1,9 +1,9 @@
 //! Words that a tree keeps as they are.
 ghost use Rattle.std.specs.Prelude.{◌≡◌};
 ghost use Rattle.mol_words.specs.Words as spec;
-ghost use Rattle.mol_table.specs.TokenForms as forms;
 
-use mol_base::{TokenKind, binary_level, is_assignment, is_prefix, is_step, text_kind};
+use mol_base::{binary_level, is_assignment, is_prefix, is_step};
+use mol_table::{is_comment, is_dotted, is_literal, is_name};
 
 /// What a word may be that a tree keeps as it is.
 #[derive(Clone, Copy, Debug, PartialEq, Eq)]
@@ -22,30 +22,6 @@ pub enum TextForm {
     /// An operator between two operands.
     Binary,
     Assignment,
-}
-
-fn is_literal(word: &[u8]) -> bool
-    ensures { result ≡ forms.is_literal word.now }
-{
-    matches!(text_kind(word), Some(TokenKind::Literal))
-}
-
-fn is_comment(word: &[u8]) -> bool
-    ensures { result ≡ forms.is_comment word.now }
-{
-    matches!(text_kind(word), Some(TokenKind::Comment))
-}
-
-fn is_name(word: &[u8]) -> bool
-    ensures { result ≡ forms.is_name word.now }
-{
-    matches!(text_kind(word), Some(TokenKind::Word))
-}
-
-fn is_dotted(word: &[u8]) -> bool
-    ensures { result ≡ forms.is_dotted word.now }
-{
-    word.split(|byte| *byte == b'.').all(|part| is_name(part))
 }
 
 fn is_binary(word: &[u8]) -> bool

@@ -1,4 +1,4 @@
-use Rattle.log_cases.proofs.LinesLeft.{Stands, count_left}
+use Rattle.mol_rows.proofs.LinesLeft.{Stands, count_left}
 use Rattle.log_cases.proofs.count_of.Given as goal
 
 abbrev pub invariant-loop-rows : goal.invariant-loop-rows

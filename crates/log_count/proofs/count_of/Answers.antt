@@ -1,5 +1,5 @@
 use Rattle.std.proofs.Common.{sym, ◌∙◌}
-use Rattle.log_count.proofs.LinesLeft.{stands_behind, fewer_left}
+use Rattle.mol_rows.proofs.LinesLeft.{stands_behind, fewer_left}
 use Rattle.log_count.proofs.count_of.Goals as goal
 
 pub loop-rows-smaller : goal.loop-rows-smaller

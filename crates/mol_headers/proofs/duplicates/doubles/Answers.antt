@@ -10,7 +10,7 @@ use Rattle.mol_headers.specs.Marks.{Marked}
 use Rattle.mol_headers.specs.Headers.{first_named, name_of}
 use Rattle.mol_headers.proofs.Marking.{marked-more, none-marked}
 use Rattle.mol_headers.proofs.FirstNamed.{first-below}
-use Rattle.mol_headers.proofs.Told.{doubles-told}
+use Rattle.mol_headers.proofs.Failing.{doubles-failing}
 use Rattle.mol_headers.proofs.duplicates.doubles.Goals as goal
 
 pub loop-place-init : goal.loop-place-init
@@ -58,6 +58,6 @@ loop-place-preserved c =
 pub returns : goal.returns
 returns c =
     let sources = c.args.sources.now in
-    doubles-told sources c.loop-place.doubles.items c.loop-place.invariant.size
+    doubles-failing sources c.loop-place.doubles.items c.loop-place.invariant.size
     (subst (λ (all : List SourceUnit). Marked (shows_double sources) (numbered all) c.loop-place.doubles.items)
     (take_all c.loop-place.place sources (omega (arith, c.loop-place-test.false))) c.loop-place.invariant.marked)

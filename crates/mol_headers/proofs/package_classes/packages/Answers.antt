@@ -7,7 +7,7 @@ use Rattle.jav_scope.proofs.Numbered.{mapped-more}
 use Rattle.mol_spell.specs.FaultKinds.{package_is_class}
 use Rattle.mol_headers.specs.Headers.{first_named, name_of, fails}
 use Rattle.mol_headers.proofs.FirstNamed.{first-below}
-use Rattle.mol_headers.proofs.Told.{package-told}
+use Rattle.mol_headers.proofs.Failing.{package-failing}
 use Rattle.mol_headers.proofs.package_classes.packages.Goals as goal
 
 pub first_of-first-requires : goal.first_of-first-requires
@@ -35,7 +35,7 @@ loop-place-preserved c =
     slice_get_read sources _ place source refl c.loop-place-test.true c.index-sources-place.is in
     let first : first_named sources (name_of source) ≡ Some number =
     subst (λ (all : List SourceUnit). first_named all (name_of source) ≡ Some number) c.requires c.first_of-first.ensures in
-    let mark = package-told sources c.in_ok-named.named.items c.in_ok-named.ensures.size c.in_ok-named.ensures.marks place source at
+    let mark = package-failing sources c.in_ok-named.named.items c.in_ok-named.ensures.size c.in_ok-named.ensures.marks place source at
     (get_or c.as_slice-marks.result.now number false)
     (λ other is. (λ i. get_or (c.as_slice-marks.ensures.value i) (same_Some number other (sym first ∙ is) i) false)) in
     c.in_ok-push.ensures.items ∙ (λ i. c.loop-place.invariant i ++ mark i ∷ [])

@@ -9,14 +9,19 @@ use Rattle.mol_rows.proofs.parts.filler.Goals as goal
 
 pub returns-in_err-text : goal.returns-in_err-text
 returns-in_err-text c =
-    reads_err _ c.from_residual.result _ _ c.from_residual.ensures.1 (λ wrong. part_and_without c.args.key.now as_str (passing is_filler) _ (c.in_err-text.ensures wrong))
+    reads_err _ c.from_residual.result _ _ c.from_residual.ensures.1
+    (λ wrong. part_and_without c.args.key.now as_str (passing is_filler) _ (c.in_err-text.ensures wrong))
 
 pub returns-then-is_filler : goal.returns-then-is_filler
 returns-then-is_filler c =
-    let is : is_filler c.in_ok-text.text ≡ true = ap is_filler (sym c.bytes.ensures.bytes) ∙ sym c.is_filler.ensures ∙ c.if-is_filler.true in
-    reads_and c.args.key.now as_str (passing is_filler) _ _ _ (Ok c.in_ok-text.text) c.in_ok-text.ensures (passes is_filler c.in_ok-text.text is)
+    let is : is_filler c.in_ok-text.text ≡ true = ap is_filler (sym c.bytes.ensures.bytes) ∙ sym c.is_filler.ensures
+    ∙ c.if-is_filler.true in
+    reads_and c.args.key.now as_str (passing is_filler) _ _ _ (Ok c.in_ok-text.text) c.in_ok-text.ensures
+    (passes is_filler c.in_ok-text.text is)
 
 pub returns-else-is_filler : goal.returns-else-is_filler
 returns-else-is_filler c =
-    let isnt : is_filler c.in_ok-text.text ≡ false = ap is_filler (sym c.bytes.ensures.bytes) ∙ sym c.is_filler.ensures ∙ c.if-is_filler.false in
-    reads_and c.args.key.now as_str (passing is_filler) _ _ _ (Err WrongForm) c.in_ok-text.ensures (λ wrong. fails is_filler c.in_ok-text.text isnt)
+    let isnt : is_filler c.in_ok-text.text ≡ false = ap is_filler (sym c.bytes.ensures.bytes) ∙ sym c.is_filler.ensures
+    ∙ c.if-is_filler.false in
+    reads_and c.args.key.now as_str (passing is_filler) _ _ _ (Err WrongForm) c.in_ok-text.ensures
+    (λ wrong. fails is_filler c.in_ok-text.text isnt)

@@ -10,7 +10,8 @@ use Rattle.mol_rows.proofs.parts.kind.Goals as goal
 
 pub returns-in_err-text : goal.returns-in_err-text
 returns-in_err-text c =
-    reads_err _ c.from_residual.result _ _ c.from_residual.ensures.1 (λ wrong. part_and_without (codes "kind") as_str kind_of _ (c.in_err-text.ensures wrong))
+    reads_err _ c.from_residual.result _ _ c.from_residual.ensures.1
+    (λ wrong. part_and_without (codes "kind") as_str kind_of _ (c.in_err-text.ensures wrong))
 
 pub returns-in-instance : goal.returns-in-instance
 returns-in-instance c =
@@ -23,4 +24,5 @@ returns-in-static c =
 pub returns : goal.returns
 returns c =
     reads_and (codes "kind") as_str kind_of _ _ _ (Err WrongForm) c.in_ok-text.ensures
-    (λ wrong. no_kind c.in_ok-text.text (λ is. c.in_default.not-instance (c.as_str.ensures ∙ is)) (λ is. c.in_default.not-static (c.as_str.ensures ∙ is)))
+    (λ wrong. no_kind c.in_ok-text.text (λ is. c.in_default.not-instance (c.as_str.ensures ∙ is))
+    (λ is. c.in_default.not-static (c.as_str.ensures ∙ is)))

@@ -6,7 +6,8 @@ use Rattle.mol_rows.proofs.parts.params.Goals as goal
 
 pub returns-in_err-value : goal.returns-in_err-value
 returns-in_err-value c =
-    reads_err _ c.from_residual.result _ _ c.from_residual.ensures.1 (λ wrong. part_without (codes "params") params_from _ c.in_err-value.ensures)
+    reads_err _ c.from_residual.result _ _ c.from_residual.ensures.1
+    (λ wrong. part_without (codes "params") params_from _ c.in_err-value.ensures)
 
 pub returns : goal.returns
 returns c = reads_with (codes "params") params_from _ _ _ c.listed_params.result c.in_ok-value.ensures c.listed_params.ensures

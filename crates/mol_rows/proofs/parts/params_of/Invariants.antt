@@ -6,5 +6,6 @@ use Rattle.mol_rows.proofs.parts.params_of.Given as goal
 
 abbrev pub invariant-loop-item : goal.invariant-loop-item
 invariant-loop-item l =
-    (params_in (items_view (into_iter_items l.initial.item-iterator)) ≡ option_map (λ more. l.params ++ more) (params_in (items_view (into_iter_items l.item-iterator))))
+    (params_in (items_view (into_iter_items l.initial.item-iterator)) ≡ option_map (λ more. l.params ++ more)
+    (params_in (items_view (into_iter_items l.item-iterator))))
     × (into_iter_len l.item-iterator ≡ length (into_iter_items l.item-iterator))

@@ -18,7 +18,8 @@ pub returns-then-are_words : goal.returns-then-are_words
 returns-then-are_words c =
     let are : are_words (words_before c.args.of) c.in_ok-texts.texts ≡ true =
     ap (are_words (words_before c.args.of)) (sym c.items.ensures) ∙ sym c.are_words.ensures ∙ c.if-are_words.true in
-    reads_and (codes "words") texts_from (words_made (words_before c.args.of)) _ _ _ (Ok (words_of c.in_ok-texts.texts)) c.in_ok-texts.ensures
+    reads_and (codes "words") texts_from (words_made (words_before c.args.of)) _ _ _
+    (Ok (words_of c.in_ok-texts.texts)) c.in_ok-texts.ensures
     (ap (λ b. if b then Some (words_of c.in_ok-texts.texts) else None) are)
 
 pub returns-else-are_words : goal.returns-else-are_words

@@ -21,7 +21,8 @@ returns-in-text-4 c =
 
 pub returns-in-text-5 : goal.returns-in-text-5
 returns-in-text-5 c =
-    row_at c.args.name.now (codes "add-constructor") _ _ c.add_constructor.result (sym c.as_str.ensures ∙ c.in-text-5.is) c.add_constructor.ensures
+    row_at c.args.name.now (codes "add-constructor") _ _ c.add_constructor.result
+    (sym c.as_str.ensures ∙ c.in-text-5.is) c.add_constructor.ensures
 
 pub returns-in-delete : goal.returns-in-delete
 returns-in-delete c =
@@ -41,7 +42,8 @@ returns-in-text-8 c =
 
 pub returns-in-text-9 : goal.returns-in-text-9
 returns-in-text-9 c =
-    row_at c.args.name.now (codes "rename-method") _ _ c.rename_method.result (sym c.as_str.ensures ∙ c.in-text-9.is) c.rename_method.ensures
+    row_at c.args.name.now (codes "rename-method") _ _ c.rename_method.result
+    (sym c.as_str.ensures ∙ c.in-text-9.is) c.rename_method.ensures
 
 pub returns-in-text-10 : goal.returns-in-text-10
 returns-in-text-10 c =
@@ -53,7 +55,8 @@ returns-in-text-11 c =
 
 pub returns-in-text-12 : goal.returns-in-text-12
 returns-in-text-12 c =
-    row_at c.args.name.now (codes "change-signature") _ _ c.change_signature.result (sym c.as_str.ensures ∙ c.in-text-12.is) c.change_signature.ensures
+    row_at c.args.name.now (codes "change-signature") _ _ c.change_signature.result
+    (sym c.as_str.ensures ∙ c.in-text-12.is) c.change_signature.ensures
 
 pub returns-in_default : goal.returns-in_default
 returns-in_default c = λ wrong.
@@ -70,5 +73,25 @@ returns-in_default c = λ wrong.
     let move_class = λ (is : c.args.name.now ≡ codes "move-class"). c.in_default.not-text-10 (c.as_str.ensures ∙ is) in
     let move_method = λ (is : c.args.name.now ≡ codes "move-method"). c.in_default.not-text-11 (c.as_str.ensures ∙ is) in
     let change_signature = λ (is : c.args.name.now ≡ codes "change-signature"). c.in_default.not-text-12 (c.as_str.ensures ∙ is) in
-    no_row row_table c.args.name.now _
-    (add_class, (add_field, (add_method, (add_override, (add_constructor, (delete, (set_body, (set_value, (rename_class, (rename_method, (move_class, (move_method, (change_signature, tt)))))))))))))
+    no_row row_table c.args.name.now _ (
+      add_class,
+      (
+        add_field,
+        (
+          add_method,
+          (
+            add_override,
+            (
+              add_constructor,
+              (
+                delete,
+                (
+                  set_body,
+                  (set_value, (rename_class, (rename_method, (move_class, (move_method, (change_signature, tt)))))),
+                ),
+              ),
+            ),
+          ),
+        ),
+      ),
+    )

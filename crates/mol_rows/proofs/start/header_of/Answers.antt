@@ -7,7 +7,8 @@ use Rattle.mol_rows.proofs.start.header_of.Goals as goal
 
 pub returns-in_err-value : goal.returns-in_err-value
 returns-in_err-value c =
-    answers_err _ (IsHeaderFault (seen c.args.line)) c.from_residual.result _ c.from_residual.ensures.1 (λ enough. line.unread (c.in_err-value.ensures enough))
+    answers_err _ (IsHeaderFault (seen c.args.line)) c.from_residual.result _ c.from_residual.ensures.1
+    (λ enough. line.unread (c.in_err-value.ensures enough))
 
 pub returns-in-Ok : goal.returns-in-Ok
 returns-in-Ok c = record { said = view c.in_ok-value.value; text = c.in_ok-value.ensures; is = c.in-Ok.ensures.is }

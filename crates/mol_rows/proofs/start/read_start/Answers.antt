@@ -8,7 +8,8 @@ use Rattle.mol_rows.proofs.start.read_start.Goals as goal
 
 pub returns-in_err-check_size : goal.returns-in_err-check_size
 returns-in_err-check_size c =
-    answers_err _ (IsFirstFault c.args.bytes.now) c.from_residual.result _ c.from_residual.ensures.1 (λ enough. line.too_long c.in_err-check_size.ensures.err)
+    answers_err _ (IsFirstFault c.args.bytes.now) c.from_residual.result _ c.from_residual.ensures.1
+    (λ enough. line.too_long c.in_err-check_size.ensures.err)
 
 pub returns-in_default : goal.returns-in_default
 returns-in_default c = λ enough. line.no_line c.in_ok-check_size.ensures.ok (sym c.of-rest.ensures ∙ c.in_default.ensures.0)

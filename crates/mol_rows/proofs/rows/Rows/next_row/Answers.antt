@@ -9,15 +9,18 @@ returns-in_default c = λ tags earlier number lines stands.
 
 pub returns-in_err-found : goal.returns-in_err-found
 returns-in_err-found c = λ tags earlier number lines stands.
-    passed_err c.args.self.now tags earlier number lines stands (seen c.in-Some.line) _ c.in-Some.ensures refl c.from_residual.result _ c.from_residual.ensures.1
+    passed_err c.args.self.now tags earlier number lines stands
+    (seen c.in-Some.line) _ c.in-Some.ensures refl c.from_residual.result _ c.from_residual.ensures.1
     c.in_err-found.ensures refl
 
 pub returns-then-may_follow : goal.returns-then-may_follow
 returns-then-may_follow c = λ tags earlier number lines stands.
-    taken c.args.self.now tags earlier number lines stands (seen c.in-Some.line) _ c.in-Some.ensures refl c.in_ok-found.found _ c.in_ok-found.ensures
+    taken c.args.self.now tags earlier number lines stands (seen c.in-Some.line) _ c.in-Some.ensures refl c.in_ok-found.found _
+    c.in_ok-found.ensures
     c.may_follow.ensures c.if-may_follow.true c.take.ensures
 
 pub returns-else-may_follow : goal.returns-else-may_follow
 returns-else-may_follow c = λ tags earlier number lines stands.
-    passed_stamp c.args.self.now tags earlier number lines stands (seen c.in-Some.line) _ c.in-Some.ensures refl c.in_ok-found.found _ c.in_ok-found.ensures
+    passed_stamp c.args.self.now tags earlier number lines stands
+    (seen c.in-Some.line) _ c.in-Some.ensures refl c.in_ok-found.found _ c.in_ok-found.ensures
     c.may_follow.ensures c.if-may_follow.false refl

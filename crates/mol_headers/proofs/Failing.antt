@@ -1,4 +1,4 @@
--- What is told of each file, from marks.
+-- Which files have a fault, from marks.
 use Rattle.std.proofs.Common.{◌≡◌, ℕ, zero, suc, ◌+◌, Bool, false, List, [], ◌∷◌, map, length, get_or, Some, slice_get, refl, ◌∙◌, ap, arith}
 use Rattle.std.specs.List.{enumerate_from}
 use Rattle.std.proofs.lemmas.Option.{slice_get_within}
@@ -8,37 +8,37 @@ use Rattle.mol_spell.specs.FaultKinds.{duplicate_class, package_is_class}
 use Rattle.mol_headers.specs.Doubles.{shows_double}
 use Rattle.mol_headers.specs.Marks.{Marked}
 use Rattle.mol_headers.specs.Packages.{package_names}
-use Rattle.mol_headers.specs.Headers.{name_of, first_named, fails, told}
+use Rattle.mol_headers.specs.Headers.{name_of, first_named, fails, failing}
 use Rattle.mol_headers.proofs.DoublesFound.{double-is}
 use Rattle.mol_headers.proofs.PackagesFound.{package-is}
 use Rattle.mol_headers.proofs.FirstNamed.{first-there, first-below}
 
 -- marks that are each what a function of the number and the element gives
-each-told : {X : Type 0} (f : ℕ × X → Bool) (n : ℕ) (xs : List X) (marks : List Bool) → length marks ≡ length xs
+each-failing : {X : Type 0} (f : ℕ × X → Bool) (n : ℕ) (xs : List X) (marks : List Bool) → length marks ≡ length xs
     → ((k : ℕ) (x : X) → slice_get xs k ≡ Some x → get_or marks k false ≡ f (n + k, x)) → marks ≡ map f (enumerate_from n xs)
-each-told f n [] [] size each = refl
-each-told f n [] (mark ∷ marks) size each = absurd (omega (arith, size))
-each-told f n (x ∷ xs) [] size each = absurd (omega (arith, size))
-each-told {X} f n (x ∷ xs) (mark ∷ marks) size each =
+each-failing f n [] [] size each = refl
+each-failing f n [] (mark ∷ marks) size each = absurd (omega (arith, size))
+each-failing f n (x ∷ xs) [] size each = absurd (omega (arith, size))
+each-failing {X} f n (x ∷ xs) (mark ∷ marks) size each =
     let first : mark ≡ f (n, x) = each zero x refl ∙ ap {B = Bool} (λ (k : ℕ). f (k, x)) (omega arith) in
     let rest : marks ≡ map f (enumerate_from (n + 1) xs) =
-    each-told f (n + 1) xs marks (omega (arith, size))
+    each-failing f (n + 1) xs marks (omega (arith, size))
     (λ (k : ℕ) (y : X) at. each (suc k) y at ∙ ap {B = Bool} (λ (i : ℕ). f (i, y)) (omega arith)) in
     λ i. first i ∷ rest i
 
 module _ (sources : List SourceUnit) (marks : List Bool) (size : length marks ≡ length sources) where
-  pub doubles-told : Marked (shows_double sources) (numbered sources) marks → marks ≡ told duplicate_class sources
-  doubles-told marked =
-      each-told (fails sources duplicate_class) 0 sources marks size
+  pub doubles-failing : Marked (shows_double sources) (numbered sources) marks → marks ≡ failing duplicate_class sources
+  doubles-failing marked =
+      each-failing (fails sources duplicate_class) 0 sources marks size
       (λ number source at. marked number (omega (arith, slice_get_within sources number source at, size))
       ∙ double-is sources number source at ∙ ap (λ k. fails sources duplicate_class (k, source)) (omega arith))
 
-  -- a class is told what the first of its full name is marked with
-  pub package-told : Marked (package_names sources) sources marks → (number : ℕ) (source : SourceUnit)
+  -- a class fails where the first of its full name is marked
+  pub package-failing : Marked (package_names sources) sources marks → (number : ℕ) (source : SourceUnit)
       → slice_get sources number ≡ Some source → (mark : Bool)
       → ((first : ℕ) → first_named sources (name_of source) ≡ Some first → mark ≡ get_or marks first false)
       → mark ≡ fails sources package_is_class (number, source)
-  package-told marked number source at mark is =
+  package-failing marked number source at mark is =
       let first = first-there sources number source at in
       is first.0 first.1
       ∙ marked first.0 (omega (arith, first-below sources (name_of source) first.0 first.1, size))

@@ -1,4 +1,4 @@
--- Faults as they are told.
+-- The faults for which files are refused, each with its place and its name.
 use Rattle.std.specs.Prelude.{ℕ, List, codes}
 use Rattle.mol_spell.specs.FaultKinds as kind
 use Rattle.mol_spell.specs.Outcomes.{TreeFault}
@@ -23,8 +23,8 @@ fault_of kind.static_by_instance place = fault.StaticByInstance place
 fault_of kind.receiver_type place = fault.ReceiverType place
 
 -- a fault in the file of this number
-abbrev pub told : ℕ → TreeFault → ResolveFault
-told number fault = fault_of fault.kind (record { unit = number; at = fault.at })
+abbrev pub resolve_fault : ℕ → TreeFault → ResolveFault
+resolve_fault number fault = fault_of fault.kind (record { unit = number; at = fault.at })
 
 abbrev pub place_of : ResolveFault → FaultPlace
 place_of (fault.PathDiffers place) = place
