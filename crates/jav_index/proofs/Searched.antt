@@ -1,9 +1,9 @@
 -- What a search finds in a list that is sorted, and in one before and after a stable sort.
-use Rattle.std.proofs.Common.{◌≡◌, ◌⊎◌, inl, inr, ℕ, zero, suc, ◌<◌, ◌≤◌, Bool, true, false, cond, not, ◌&&◌, List, [], ◌∷◌, length, drop, get_or, filter, ltb, ltb-true, ltb-false, Option, Some, None, find, refl, sym, ◌∙◌, ap, subst, arith, true≢false, Ordering, Less, Equal, Greater, slice_get}
+use Rattle.std.proofs.Common.{◌≡◌, ◌⊎◌, inl, inr, ℕ, zero, suc, ◌<◌, ◌≤◌, Bool, true, false, cond, not, ◌&&◌, ◌||◌, List, [], ◌∷◌, length, drop, get_or, filter, ltb, ltb-true, ltb-false, Option, Some, None, find, refl, sym, ◌∙◌, ap, subst, arith, true≢false, Ordering, Less, Equal, Greater, slice_get}
 use denote.Param.Members.{Mut}
 use denote.Ref.{Bor}
 use Rattle.std.specs.Cmp.{IsTotalOrder}
-use Rattle.std.specs.List.{All, AllWithin}
+use Rattle.std.specs.List.{All, AllWithin, list_any}
 use Rattle.std.specs.Fn.{Called, ComparesAs}
 use Rattle.std.specs.List.Sorted.{IsSortedBy, IsStableBy, IsSortedByClosure, IsStableByClosure, IsPartitionedBy, IsPartitionPoint, ties}
 use Rattle.std.specs.Ordering.{is_lt, is_eq, ordering_index, ordering_reverse}
@@ -27,15 +27,31 @@ pub find-same : {X : Type 0} (p q : X → Bool) → ((x : X) → p x ≡ q x) �
 find-same p q same [] = refl
 find-same p q same (x ∷ xs) = rw (same x, find-same p q same xs) refl
 
-get-within : {X : Type 0} (xs : List X) (i : ℕ) (x d : X) → slice_get xs i ≡ Some x → (i < length xs) × (get_or xs i d ≡ x)
+pub get-within : {X : Type 0} (xs : List X) (i : ℕ) (x d : X) → slice_get xs i ≡ Some x → (i < length xs) × (get_or xs i d ≡ x)
 get-within [] i x d is = absurd cc
 get-within (y ∷ xs) zero x d is = (omega arith, let same : y ≡ x = cc in same)
 get-within (y ∷ xs) (suc i) x d is = let more = get-within xs i x d is in (omega (arith, more.0), more.1)
 
-get-past : {X : Type 0} (xs : List X) (i : ℕ) → slice_get xs i ≡ None → length xs ≤ i
+pub get-past : {X : Type 0} (xs : List X) (i : ℕ) → slice_get xs i ≡ None → length xs ≤ i
 get-past [] i is = omega arith
 get-past (y ∷ xs) zero is = absurd cc
 get-past (y ∷ xs) (suc i) is = omega (arith, get-past xs i is)
+
+-- ---- whether something in a list passes a test
+
+pub any-at : {X : Type 0} (p : X → Bool) (xs : List X) (i : ℕ) (x : X) → slice_get xs i ≡ Some x → p x ≡ true → list_any p xs ≡ true
+any-at p [] i x is passes = absurd cc
+any-at p (y ∷ xs) zero x is passes = let same : y ≡ x = cc in ap (λ b. b || list_any p xs) (ap p same ∙ passes)
+any-at p (y ∷ xs) (suc i) x is passes = ap (λ b. p y || b) (any-at p xs i x is passes) ∙ either (p y) where
+  either : (b : Bool) → (b || true) ≡ true
+  either true = refl
+  either false = refl
+
+pub any-none : {X : Type 0} (p : X → Bool) (xs : List X) → ((k : ℕ) (d : X) → k < length xs → p (get_or xs k d) ≡ false)
+    → list_any p xs ≡ false
+any-none p [] none = refl
+any-none p (x ∷ xs) none =
+    (λ i. none 0 x (omega arith) i || any-none p xs (λ k d within. none (suc k) d (omega (arith, within))) i)
 
 pub below-or_from : (j i : ℕ) → (j < i) ⊎ (i ≤ j)
 below-or_from j i = by_test (ltb j i) refl where

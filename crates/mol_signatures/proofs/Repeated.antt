@@ -1,5 +1,5 @@
 -- Whether a member repeats an earlier one is told by the first of those that tie with it in the order of signatures.
-use Rattle.std.proofs.Common.{◌≡◌, ◌⊎◌, inl, inr, ℕ, zero, suc, ◌<◌, ◌≤◌, Bool, true, false, cond, ◌==◌, ◌&&◌, ◌||◌, not, List, [], ◌∷◌, map, length, get_or, ltb, ltb-false, le-ltb, Some, None, slice_get, refl, sym, ◌∙◌, ap, arith, true≢false, nat_cmp, Ordering, Less, Equal, Greater}
+use Rattle.std.proofs.Common.{◌≡◌, ◌⊎◌, inl, inr, ℕ, ◌<◌, ◌≤◌, Bool, true, false, cond, ◌==◌, ◌&&◌, ◌||◌, not, List, [], ◌∷◌, map, length, get_or, ltb, ltb-false, le-ltb, Some, None, slice_get, refl, sym, ◌∙◌, ap, arith, true≢false, nat_cmp, Ordering, Less, Equal, Greater}
 use Rattle.std.specs.Cmp.{IsTotalOrder}
 use Rattle.std.specs.Cmp.Lexicographic.{slice_cmp}
 use Rattle.std.specs.List.{list_any}
@@ -9,7 +9,7 @@ use Rattle.std.proofs.lemmas.Cmp.{on_total, then_total, nat_cmp_total, nat_list_
 use Rattle.std.proofs.lemmas.List.Sorted.{ranks_by, sorted_far}
 use Rattle.jav_types.specs.Kept.{view_type}
 use Rattle.jav_view.specs.StaticTypes.{is_unread}
-use Rattle.jav_index.proofs.Searched.{below-or_from, equal-is}
+use Rattle.jav_index.proofs.Searched.{any-at, any-none, below-or_from, equal-is, get-past, get-within}
 use Rattle.mol_spell.specs.FaultLists.{same_kind}
 use Rattle.mol_signatures.specs.Repeats.{kind_of, repeats, is_known}
 use Rattle.mol_signatures.specs.SignatureOrder.{kind_rank, types_of, key_cmp, signature_cmp}
@@ -25,18 +25,6 @@ key_cmp-total = then_total (then_total (on_total (λ (s : Signature). kind_rank 
 
 pub signature_cmp-total : IsTotalOrder signature_cmp
 signature_cmp-total = then_total key_cmp-total (on_total (λ (s : Signature). s.place) nat_cmp_total)
-
--- ---- lists
-
-get-within : {X : Type 0} (xs : List X) (i : ℕ) (x d : X) → slice_get xs i ≡ Some x → (i < length xs) × (get_or xs i d ≡ x)
-get-within [] i x d is = absurd cc
-get-within (y ∷ xs) zero x d is = (omega arith, let same : y ≡ x = cc in same)
-get-within (y ∷ xs) (suc i) x d is = let more = get-within xs i x d is in (omega (arith, more.0), more.1)
-
-get-past : {X : Type 0} (xs : List X) (i : ℕ) → slice_get xs i ≡ None → length xs ≤ i
-get-past [] i is = omega arith
-get-past (y ∷ xs) zero is = absurd cc
-get-past (y ∷ xs) (suc i) is = omega (arith, get-past xs i is)
 
 -- ---- tests
 
@@ -58,20 +46,6 @@ same-kind Constructor Constructor = refl
 any-mapped : {X Y : Type 0} (f : X → Y) (p : Y → Bool) (xs : List X) → list_any p (map f xs) ≡ list_any (λ x. p (f x)) xs
 any-mapped f p [] = refl
 any-mapped f p (x ∷ xs) = ap (λ b. p (f x) || b) (any-mapped f p xs)
-
-any-at : {X : Type 0} (p : X → Bool) (xs : List X) (i : ℕ) (x : X) → slice_get xs i ≡ Some x → p x ≡ true → list_any p xs ≡ true
-any-at p [] i x is passes = absurd cc
-any-at p (y ∷ xs) zero x is passes = let same : y ≡ x = cc in ap (λ b. b || list_any p xs) (ap p same ∙ passes)
-any-at p (y ∷ xs) (suc i) x is passes = ap (λ b. p y || b) (any-at p xs i x is passes) ∙ either (p y) where
-  either : (b : Bool) → (b || true) ≡ true
-  either true = refl
-  either false = refl
-
-any-none : {X : Type 0} (p : X → Bool) (xs : List X) → ((k : ℕ) (d : X) → k < length xs → p (get_or xs k d) ≡ false)
-    → list_any p xs ≡ false
-any-none p [] none = refl
-any-none p (x ∷ xs) none =
-    (λ i. none 0 x (omega arith) i || any-none p xs (λ k d within. none (suc k) d (omega (arith, within))) i)
 
 parts : (kind name types : Ordering) (known : Bool)
     → ((is_eq kind && is_eq name) && (is_eq types && known)) ≡ (is_eq (ordering_then (ordering_then kind name) types) && known)
