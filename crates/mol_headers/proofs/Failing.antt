@@ -4,14 +4,11 @@ use Rattle.std.specs.List.{enumerate_from}
 use Rattle.std.proofs.lemmas.Option.{slice_get_within}
 use Rattle.jav_view.specs.UnitViews.{numbered}
 use Rattle.jav_scope.specs.declared.source.SourceUnit.{SourceUnit}
-use Rattle.mol_spell.specs.FaultKinds.{duplicate_class, package_is_class}
+use Rattle.mol_spell.specs.FaultKinds.{duplicate_class}
 use Rattle.mol_headers.specs.Doubles.{shows_double}
 use Rattle.mol_headers.specs.Marks.{Marked}
-use Rattle.mol_headers.specs.Packages.{package_names}
-use Rattle.mol_headers.specs.Headers.{name_of, first_named, fails, failing}
+use Rattle.mol_headers.specs.Headers.{fails, failing}
 use Rattle.mol_headers.proofs.DoublesFound.{double-is}
-use Rattle.mol_headers.proofs.PackagesFound.{package-is}
-use Rattle.mol_headers.proofs.FirstNamed.{first-there, first-below}
 
 -- marks that are each what a function of the number and the element gives
 each-failing : {X : Type 0} (f : ℕ × X → Bool) (n : ℕ) (xs : List X) (marks : List Bool) → length marks ≡ length xs
@@ -32,14 +29,3 @@ module _ (sources : List SourceUnit) (marks : List Bool) (size : length marks �
       each-failing (fails sources duplicate_class) 0 sources marks size
       (λ number source at. marked number (omega (arith, slice_get_within sources number source at, size))
       ∙ double-is sources number source at ∙ ap (λ k. fails sources duplicate_class (k, source)) (omega arith))
-
-  -- a class fails where the first of its full name is marked
-  pub package-failing : Marked (package_names sources) sources marks → (number : ℕ) (source : SourceUnit)
-      → slice_get sources number ≡ Some source → (mark : Bool)
-      → ((first : ℕ) → first_named sources (name_of source) ≡ Some first → mark ≡ get_or marks first false)
-      → mark ≡ fails sources package_is_class (number, source)
-  package-failing marked number source at mark is =
-      let first = first-there sources number source at in
-      is first.0 first.1
-      ∙ marked first.0 (omega (arith, first-below sources (name_of source) first.0 first.1, size))
-      ∙ package-is sources (name_of source) first.0 first.1 sources

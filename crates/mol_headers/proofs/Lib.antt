@@ -1,7 +1,7 @@
 pub mod FirstNamed
 pub mod Marking
 pub mod DoublesFound
-pub mod Fronts
+pub mod Begun
 pub mod PackagesFound
 pub mod Failing
 pub mod FoundClashes

@@ -1,13 +1,13 @@
 -- Marks, one more of the list further.
-use Rattle.std.proofs.Common.{◌≡◌, ℕ, ◌<◌, zero, suc, ◌+◌, ◌==◌, Bool, true, false, ◌&&◌, ◌||◌, not, List, [], ◌∷◌, ◌++◌, length, get_or, set, replicate, refl, sym, ◌∙◌, ap, subst, arith, true≢false, eqb-true, eq-eqb}
-use Rattle.std.specs.List.{list_any, range_with_len}
+use Rattle.std.proofs.Common.{◌≡◌, ℕ, ◌<◌, ◌==◌, Bool, true, false, ◌&&◌, ◌||◌, not, List, [], ◌∷◌, ◌++◌, length, get_or, set, replicate, refl, sym, ◌∙◌, ap, subst, arith, true≢false, eqb-true, eq-eqb}
+use Rattle.std.specs.List.{list_any}
 use Rattle.std.proofs.lemmas.Bool.Decides.{Decides-eqb}
 use Rattle.std.proofs.lemmas.List.Folds.{list_any-append}
 use Rattle.std.proofs.lemmas.List.{get_or-replicate, get_or-set_other, get_or-set_same, length-replicate, length-set}
 use Rattle.jav_view.proofs.Lists.{Decides-fails}
 use Rattle.mol_headers.specs.Marks.{Marked}
 
-pub or-false : (b : Bool) → (b || false) ≡ b
+or-false : (b : Bool) → (b || false) ≡ b
 or-false true = refl
 or-false false = refl
 
@@ -15,15 +15,15 @@ or-true : (b : Bool) → (b || true) ≡ true
 or-true true = refl
 or-true false = refl
 
-pub or-again : (a b c : Bool) → ((a || b) || c) ≡ (a || (b || c))
+or-again : (a b c : Bool) → ((a || b) || c) ≡ (a || (b || c))
 or-again true b c = refl
 or-again false b c = refl
 
-pub list_any-push : {X : Type 0} (test : X → Bool) (xs : List X) (x : X) → list_any test (xs ++ x ∷ []) ≡ (list_any test xs || test x)
+list_any-push : {X : Type 0} (test : X → Bool) (xs : List X) (x : X) → list_any test (xs ++ x ∷ []) ≡ (list_any test xs || test x)
 list_any-push test xs x = list_any-append test xs (x ∷ []) ∙ ap (λ b. list_any test xs || b) (or-false (test x))
 
 -- one mark more
-pub mark-set : (marks : List Bool) (place number : ℕ) → place < length marks
+mark-set : (marks : List Bool) (place number : ℕ) → place < length marks
     → get_or (set marks place true) number false ≡ (get_or marks number false || place == number)
 mark-set marks place number below = by (place == number) refl where
   by : (b : Bool) → (place == number) ≡ b → get_or (set marks place true) number false ≡ (get_or marks number false || b)
@@ -48,22 +48,6 @@ pub no_marks : (marks : List Bool) (first place number : ℕ) → first ≡ plac
 no_marks marks first place number same =
     sym (ap (λ b. get_or marks number false || not b && (first == number || place == number)) (eq-eqb first place same)
     ∙ or-false (get_or marks number false))
-
--- numbers, one further
-range-last : (a n : ℕ) → range_with_len a (suc n) ≡ range_with_len a n ++ (a + n) ∷ []
-range-last a zero = ap (λ k. k ∷ []) (omega arith)
-range-last a (suc n) = ap (λ ks. a ∷ ks) (range-last (a + 1) n ∙ ap (λ k. range_with_len (a + 1) n ++ k ∷ []) (omega arith))
-
-range-more : (a n : ℕ) → range_with_len a (n + 1) ≡ range_with_len a n ++ (a + n) ∷ []
-range-more a n = let next : n + 1 ≡ suc n = omega arith in ap (range_with_len a) next ∙ range-last a n
-
--- one number more that may pass a test
-pub front-more : (test : ℕ → Bool) (n : ℕ) (here first : Bool) → here ≡ (first || list_any test (range_with_len 0 n))
-    → (here || test n) ≡ (first || list_any test (range_with_len 0 (n + 1)))
-front-more test n here first is =
-    ap (λ b. b || test n) is ∙ or-again first (list_any test (range_with_len 0 n)) (test n)
-    ∙ sym (ap (λ b. first || b) (ap (list_any test) (range-more 0 n) ∙ list_any-push test (range_with_len 0 n) (0 + n)
-    ∙ ap (λ k. list_any test (range_with_len 0 n) || test k) (omega arith)))
 
 module _ {X : Type 0} (test : ℕ → X → Bool) where
   pub none-marked : (marks : List Bool) (n : ℕ) → marks ≡ replicate n false → Marked test [] marks

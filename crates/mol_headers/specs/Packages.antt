@@ -1,27 +1,18 @@
--- Classes whose full names are packages.
-use Rattle.std.specs.Prelude.{ℕ, ◌+◌, ◌==◌, Bool, false, ◌&&◌, ◌||◌, List, length, take, slice_index_or}
-use Rattle.std.specs.List.{list_any, range_with_len}
-use Rattle.std.specs.Option.{option_map_or}
+-- The packages of source files as texts: a full name is a package, or one is in it, where this package with a dot begins with it and a dot.
+use Rattle.std.specs.Prelude.{Bool, [], ◌∷◌, ◌++◌, nat_eq}
+use Rattle.std.specs.List.{starts_with}
 use Rattle.jav_scope.specs.declared.source.SourceUnit.{SourceUnit}
 use Rattle.jav_view.specs.DottedNames.{Name, dot}
-use Rattle.mol_headers.specs.Headers.{first_named}
+use Rattle.mol_headers.specs.Headers.{name_of}
 
--- the class of this number is the first of a full name
-abbrev pub is_first : List SourceUnit → ℕ → Name → Bool
-is_first sources number name = option_map_or (λ first. first == number) (first_named sources name) false
+-- a text begins with this front
+abbrev pub begins : (front text : Name) → Bool
+begins front text = starts_with nat_eq text front
 
--- a front of a text ends there: with the text, or before a dot
-abbrev pub ends_front : Name → ℕ → Bool
-ends_front text end = end == length text || slice_index_or text end 0 == dot
+-- the package of a file, and a dot
+abbrev pub dotted_package : SourceUnit → Name
+dotted_package source = source.unit.«package» ++ dot ∷ []
 
--- the class of this number is the first that the front of a text names which ends there, if one does
-abbrev pub front_names : List SourceUnit → ℕ → Name → ℕ → Bool
-front_names sources number text end = ends_front text end && is_first sources number (take end text)
-
--- some front of a text does
-abbrev pub text_names : List SourceUnit → ℕ → Name → Bool
-text_names sources number text = list_any (front_names sources number text) (range_with_len 0 (length text + 1))
-
--- some front of the package of a file does
-abbrev pub package_names : List SourceUnit → ℕ → SourceUnit → Bool
-package_names sources number source = text_names sources number source.unit.«package»
+-- the full name of its class, and a dot
+abbrev pub dotted_name : SourceUnit → Name
+dotted_name source = name_of source ++ dot ∷ []

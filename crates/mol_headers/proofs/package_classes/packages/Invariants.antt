@@ -4,5 +4,5 @@ use Rattle.mol_spell.specs.FaultKinds.{package_is_class}
 use Rattle.mol_headers.specs.Headers.{fails}
 use Rattle.mol_headers.proofs.package_classes.packages.Given as goal
 
-abbrev pub invariant-loop-place : goal.invariant-loop-place
-invariant-loop-place l = l.packages.items ≡ map (fails l.sources package_is_class) (numbered (take l.place l.sources))
+abbrev pub invariant-loop-source : goal.invariant-loop-source
+invariant-loop-source l = l.packages.items ≡ map (fails l.sources package_is_class) (numbered (take l.source-index l.sources))

@@ -1,0 +1,2 @@
+pub mod FaultyFiles
+pub mod HeadersNoted
