@@ -1,0 +1,10 @@
+pub mod Answered
+pub mod Walks
+pub mod OnWays
+pub mod DeclarationsFound
+pub mod MemberKeys
+pub mod TopKeys
+pub mod NumberPlaces
+pub mod MethodNumbers
+pub mod IdsFound
+pub mod NumbersHeld
