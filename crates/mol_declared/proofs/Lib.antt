@@ -1,0 +1,5 @@
+pub mod ConstructorsFound
+pub mod DeclaringFound
+pub mod EntriesMade
+pub mod MembersFound
+pub mod MembersMade

@@ -1,0 +1,14 @@
+use Rattle.std.proofs.Common.{◌∙◌, ap, find, option_map, subst}
+use Rattle.mol_index.specs.Seeking.{is_sought}
+use Rattle.mol_index.specs.declared.entry.Entry.{Entry}
+use Rattle.mol_declared.specs.Indexed.{AreIndexed}
+use Rattle.mol_declared.proofs.MembersFound.{method-same}
+use Rattle.mol_declared.proofs.member_index.MemberIndex.declared_method.Goals as goal
+
+pub returns : goal.returns
+returns c =
+    let indexed = subst (AreIndexed c.self.inside.members) c.self.view_is c.self.invariant in
+    c.first.ensures
+    ∙ ap (λ name. option_map (λ (entry : Entry). entry.id)
+    (find (is_sought c.args.class.now c.args.arity name) c.self.inside.members.methods)) c.as_bytes.ensures.value
+    ∙ method-same c.args.self.now c.self.inside.members indexed c.args.name.now c.args.arity c.args.class.now

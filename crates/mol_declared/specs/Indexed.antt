@@ -1,0 +1,41 @@
+-- What indexes of a program find, and how look-ups answer.
+use Rattle.std.specs.Prelude.{ℕ, ◌&&◌, List, Option, Some, None, option_map, find}
+use Rattle.std.specs.Ordering.{is_eq}
+use Rattle.std.specs.Str.{bytes_eq}
+use Rattle.jav_view.specs.DottedNames.{Name}
+use Rattle.jav_view.specs.LookUps.{is_method}
+use Rattle.jav_view.specs.Members.{Constructor, declared_constructor, default_constructor}
+use Rattle.jav_view.specs.Views.{ViewField, ViewDeclaration, View}
+use Rattle.mol_base.specs.declared.ident.Id.{Id}
+use Rattle.mol_index.specs.Seeking.{is_sought, FindsSame}
+use Rattle.mol_index.specs.declared.entry.Entry.{Entry}
+use Rattle.mol_table.specs.Program.{Program}
+use Rattle.mol_declared.specs.MemberEntries.{entries_of}
+use Rattle.mol_declared.specs.declared.entries.Listed.TheVariants as lists
+use Rattle.mol_declared.specs.declared.members.Members.{Members}
+
+-- Each index finds the first of its members.
+pub record AreIndexed (members : Members) (program : Program) : Type 0 where
+  pub fields : FindsSame members.fields (entries_of lists.Fields program)
+  pub methods : FindsSame members.methods (entries_of lists.Methods program)
+  pub constructors : FindsSame members.constructors (entries_of lists.Constructors program)
+  pub constructed : FindsSame members.constructed (entries_of lists.Constructed program)
+  pub declared : FindsSame members.declared (entries_of lists.Declared program)
+
+-- the first field of this name that a class declares itself
+abbrev pub declared_field : View Id Id → Id → Name → Option (ViewField Id Id)
+declared_field view class name = find (λ field. bytes_eq field.name name && is_eq (view.classes.cmp field.owner class)) view.fields
+
+-- the first declaration of a method with this name and number of parameters that a class has itself
+abbrev pub declared_method : View Id Id → Id → Name → ℕ → Option (ViewDeclaration Id Id)
+declared_method view class name arity =
+    find (λ declared. is_method name arity declared && is_eq (view.classes.cmp declared.owner class)) view.declarations
+
+-- what an index finds in a class by a number of parameters and a name
+abbrev pub found_in : List Entry → ℕ → Name → Id → Option Id
+found_in entries arity name class = option_map (λ entry. entry.id) (find (is_sought class arity name) entries)
+
+-- a constructor by its declaration; none is the default one
+abbrev pub constructor_id : Constructor Id Id → Option Id
+constructor_id (declared_constructor declared) = Some declared.key
+constructor_id (default_constructor class) = None

@@ -1,0 +1,60 @@
+//! A table as the rules on names look at it.
+ghost use Rattle.std.specs.Prelude.{◌≡◌, IfOk};
+
+use crate::members::Members;
+use mol_base::OutOfMemory;
+use mol_classes::ClassIndex;
+use mol_table::Table;
+use std::alloc::Global;
+use std::marker::Model;
+
+/// The classes and members of a table, by their names. Contracts see the program of the table.
+#[derive(Drop)]
+pub struct MemberIndex<'a> {
+    pub(crate) classes: ClassIndex<'a>,
+    pub(crate) members: Members,
+}
+
+impl<'a> Model for MemberIndex<'a> {
+    ghost use Rattle.mol_base.specs.contracts.ident.Id as id;
+    ghost use Rattle.mol_declared.specs.Indexed.{AreIndexed};
+    ghost use Rattle.mol_table.specs.Maps.{program_code};
+    ghost use Rattle.mol_table.specs.Program.{Program};
+    ghost use Rattle.mol_values.specs.contracts.cell.Cell as cell;
+    ghost use Rattle.mol_values.specs.contracts.known.Known as what;
+    ghost use Rattle.mol_values.specs.contracts.value.Value as value;
+
+    ghost Value = { Program };
+
+    ghost coded = { program_code cell.the_row.coded value.the_row.coded id.the_row.coded what.the_row.coded };
+
+    ghost view = { λ index. index.classes };
+
+    ghost invariant = { λ index. AreIndexed index.members index.classes };
+}
+
+impl<'a> MemberIndex<'a> {
+    /// The classes and members of a table. The time is near-linear in the number of known identities and the length of their names, which
+    /// are sorted.
+    pub fn new(alloc: Global, table: &'a Table) -> Result<MemberIndex<'a>, OutOfMemory>
+        ensures { IfOk result (λ index. index ≡ table.now) }
+    {
+        let classes = ClassIndex::new(alloc, table)?;
+        let members = Members::of(alloc, table)?;
+        Ok(MemberIndex { classes, members })
+    }
+
+    /// The table. It takes no memory.
+    pub fn table(&self) -> &'a Table
+        ensures { result.now ≡ self.now }
+    {
+        self.classes.table()
+    }
+
+    /// The classes of the table. It takes no memory.
+    pub fn classes(&self) -> &ClassIndex<'a>
+        ensures { result.now ≡ self.now }
+    {
+        &self.classes
+    }
+}
