@@ -1,0 +1,3 @@
+pub mod AncestorsMet
+pub mod NearestFound
+pub mod SupersFound
