@@ -1,5 +1,5 @@
 -- What stands after a dot, by what the names before it spell.
-use Rattle.std.proofs.Common.{◌≡◌, ℕ, List, [], ◌∷◌, map, length, Option, Some, None, sym, ap, ◌∙◌, subst}
+use Rattle.std.proofs.Common.{◌≡◌, ℕ, List, [], ◌∷◌, map, length, Option, Some, sym, ap, ◌∙◌, subst}
 use Rattle.std.proofs.lemmas.List.{length-map}
 use Rattle.jav_tree.specs.declared.expr.Expr.{Expr}
 use Rattle.jav_tree.specs.declared.expr.ExprNode.TheOpen.{ExprNode-F}
@@ -18,7 +18,7 @@ use Rattle.mol_reads.specs.declared.chain.ClassPath.{ClassPath as Path}
 use Rattle.mol_spell.specs.Locals.{Locals}
 use Rattle.mol_spell.specs.Outcomes.{TreeFault}
 use Rattle.mol_spell.specs.Readers.{Reader}
-use Rattle.mol_spell.specs.ReadTrees.{Meant, Mode, followers, longer, dot_meant, call_meant, path_of, reading}
+use Rattle.mol_spell.specs.ReadTrees.{Meant, Mode, followers, longer, dot_meant, call_meant, reading}
 
 module _ (reader : Reader ℕ MemberKey) (locals : Locals ℕ) (e on : Expr) (name : Name) (mode : Mode) (whole : Chain)
     (is_dot : e.node ≡ node.Dot on name) (whole_is : whole ≡ chain_of reader locals (names_of reader e) (followers mode)) where

@@ -1,9 +1,8 @@
 -- An expression stands alone or before a dot: what it is shown to come to where it stands so.
-use Rattle.std.proofs.Common.{◌≡◌, ℕ, Option, Some, None, ◌∙◌, sym, refl}
+use Rattle.std.proofs.Common.{◌≡◌, ℕ, Option, Some, None}
 use Rattle.jav_view.specs.DottedNames.{Names, Dotted}
 use Rattle.jav_view.specs.UnitViews.{MemberKey}
 use Rattle.mol_expr.specs.Stands.{stand_of}
-use Rattle.mol_expr.specs.declared.stand.Stand.{Stand}
 use Rattle.mol_expr.specs.declared.stand.Stand.TheVariants as stand
 use Rattle.mol_reads.specs.Chains.{chain_of}
 use Rattle.mol_reads.specs.declared.chain.Chain.{Chain}

@@ -1,5 +1,5 @@
 -- What each part reads as, put together as the definitions do it.
-use Rattle.std.proofs.Common.{◌≡◌, ◌∙◌, ℕ, [], ◌∷◌, List, Option, Some, None, IfOk, map, length, refl, sym, ap, subst, arith}
+use Rattle.std.proofs.Common.{◌∙◌, [], ◌∷◌, Some, None, map, refl, sym, ap, subst, arith}
 use Rattle.std.proofs.lemmas.List.{length-map}
 use Rattle.std.proofs.lemmas.Result.{IfOk-weaker}
 use Rattle.mol_expr.proofs.AfterDots.{call_by, dot_by, stands_before}
@@ -16,7 +16,7 @@ use Rattle.mol_reads.specs.Chains.{path_in}
 use Rattle.mol_reads.specs.Reads.{Reads, names_of}
 use Rattle.mol_reads.specs.declared.chain.ClassPath.TheVariants as path
 use Rattle.mol_spell.specs.Outcomes.{both}
-use Rattle.mol_spell.specs.ReadTrees.{call_meant, followers, no_path, reading, whole_path}
+use Rattle.mol_spell.specs.ReadTrees.{call_meant, followers, reading, whole_path}
 
 -- # Each kind of expression
 
