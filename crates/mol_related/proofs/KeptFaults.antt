@@ -1,0 +1,157 @@
+-- What is asked of the members that are kept is what is asked of their rows.
+use Rattle.std.proofs.Common.{◌≡◌, ℕ, nat_lt, ◌==◌, Bool, true, false, cond, ◌&&◌, ◌||◌, not, List, [], ◌∷◌, map, filter, length, refl, sym, ◌∙◌, ap, nat_cmp, bytes_eq}
+use Rattle.std.specs.List.{list_any}
+use Rattle.std.proofs.lemmas.List.{length-map}
+use Rattle.std.proofs.lemmas.List.Sorted.{list_any-IsPermutation}
+use Rattle.jav_types.specs.Kept.{view_type}
+use Rattle.jav_view.specs.StaticTypes.{same_type}
+use Rattle.mol_spell.specs.FaultLists.{same_kind, same_types}
+use Rattle.mol_spell.specs.MemberFaults.{MemberKind, a_field, a_method, a_constructor, Row}
+use Rattle.mol_signatures.specs.Repeats as signatures
+use Rattle.mol_signatures.specs.declared.signature.Signature.{Signature}
+use Rattle.mol_namesakes.specs.Compared as namesakes
+use Rattle.mol_namesakes.specs.declared.declaration.Declaration.{Declaration}
+use Rattle.mol_namesakes.specs.declared.differences.Differences.{Differences}
+use Rattle.mol_beside.specs.Beside.{Faulty}
+use Rattle.mol_beside.specs.Between.{are_namesakes, faulty_below, faulty_here, is_before, repeats}
+use Rattle.mol_related.specs.Compared.{AreKept, Seen, SeenDeclared, differing, is_kind, seen_declaration, seen_declared, seen_row, seen_signature}
+use Rattle.mol_related.specs.declared.class_members.ClassMembers.{ClassMembers}
+
+-- ---- lists
+
+any-mapped : {X Y : Type 0} (f : X → Y) (p : Y → Bool) (xs : List X) → list_any p (map f xs) ≡ list_any (λ x. p (f x)) xs
+any-mapped f p [] = refl
+any-mapped f p (x ∷ xs) = ap (λ b. p (f x) || b) (any-mapped f p xs)
+
+any-filtered : {X : Type 0} (p q : X → Bool) (xs : List X) → list_any q (filter p xs) ≡ list_any (λ x. p x && q x) xs
+any-filtered p q [] = refl
+any-filtered {X} p q (x ∷ xs) = by (p x) (any-filtered p q xs) where
+  by : (b : Bool) → list_any q (filter p xs) ≡ list_any (λ x. p x && q x) xs
+      → list_any q (cond b (x ∷ filter p xs) (filter p xs)) ≡ ((b && q x) || list_any (λ x. p x && q x) xs)
+  by true more = ap (λ b. q x || b) more
+  by false more = more
+
+-- ---- duplicates
+
+abbrev repeats_seen : Seen → Seen → Bool
+repeats_seen second first = nat_lt first.place second.place
+    && ((same_kind first.kind second.kind && bytes_eq first.name second.name) && same_types nat_cmp first.params second.params)
+
+module _ (members : ClassMembers) (rows : List (Row ℕ)) (kept : AreKept members rows) where
+  pub duplicates-kept : (signature : Signature) (row : Row ℕ) → seen_signature signature ≡ seen_row row
+      → list_any (signatures.repeats signature) members.signatures ≡ list_any (λ first. repeats first row) rows
+  duplicates-kept signature row seen =
+      sym (list_any-IsPermutation (signatures.repeats signature) kept.listed members.signatures kept.sorted)
+      ∙ sym (any-mapped seen_signature (repeats_seen (seen_signature signature)) kept.listed)
+      ∙ (λ i. list_any (repeats_seen (seen i)) (kept.signatures i))
+      ∙ any-mapped seen_row (repeats_seen (seen_row row)) rows
+
+-- ---- namesakes
+
+-- of one name, and with as many parameters
+abbrev are_named : SeenDeclared → SeenDeclared → Bool
+are_named first second = length first.params == length second.params && bytes_eq first.name second.name
+
+regroup : (kind named test : Bool) → (kind && (named && test)) ≡ ((kind && named) && test)
+regroup true named test = refl
+regroup false named test = refl
+
+regroup_before : (kind before named test : Bool) → (kind && (before && (named && test))) ≡ ((kind && named) && (before && test))
+regroup_before false before named test = refl
+regroup_before true true named test = refl
+regroup_before true false true test = refl
+regroup_before true false false test = refl
+
+module _ (kind : MemberKind) (declared : List Declaration) (rows : List (Row ℕ))
+    (same : map seen_declaration declared ≡ map seen_declared (filter (is_kind kind) rows)) (declaration : Declaration) (row : Row ℕ)
+    (seen : seen_declaration declaration ≡ seen_declared row) where
+  -- some of the declarations pass a test beside this just where some rows of the kind do
+  declared-pass : (test : SeenDeclared → SeenDeclared → Bool)
+      → list_any (λ n. test (seen_declaration n) (seen_declaration declaration)) declared
+      ≡ list_any (λ first. is_kind kind first && test (seen_declared first) (seen_declared row)) rows
+  declared-pass test =
+      sym (any-mapped seen_declaration (λ n. test n (seen_declaration declaration)) declared)
+      ∙ (λ i. list_any (λ n. test n (seen i)) (same i))
+      ∙ any-mapped seen_declared (λ n. test n (seen_declared row)) (filter (is_kind kind) rows)
+      ∙ any-filtered (is_kind kind) (λ first. test (seen_declared first) (seen_declared row)) rows
+
+  named-same : (n : Declaration) → namesakes.are_namesakes n declaration ≡ are_named (seen_declaration n) (seen_declaration declaration)
+  named-same n = λ i. (sym (length-map n.params.now view_type) i == sym (length-map declaration.params.now view_type) i)
+      && bytes_eq n.name.now declaration.name.now
+
+  module _ (test : SeenDeclared → SeenDeclared → Bool) where
+    abbrev passes : Declaration → Bool
+    passes n = test (seen_declaration n) (seen_declaration declaration)
+
+    pub namesakes-pass : list_any (λ n. namesakes.are_namesakes n declaration && passes n) declared
+        ≡ list_any (λ first. are_namesakes kind first row && test (seen_declared first) (seen_declared row)) rows
+    namesakes-pass =
+        (λ i. list_any (λ n. named-same n i && passes n) declared)
+        ∙ declared-pass (λ n d. are_named n d && test n d)
+        ∙ (λ i. list_any (λ first. regroup (is_kind kind first) (are_named (seen_declared first) (seen_declared row))
+        (test (seen_declared first) (seen_declared row)) i) rows)
+
+    -- and those that stand before it
+    pub earlier-pass : list_any (λ n. namesakes.are_namesakes n declaration && passes n)
+        (filter (λ n. nat_lt n.place declaration.place) declared)
+        ≡ list_any (λ first. are_namesakes kind first row && (is_before first row && test (seen_declared first) (seen_declared row))) rows
+    earlier-pass =
+        any-filtered (λ n. nat_lt n.place declaration.place) (λ n. namesakes.are_namesakes n declaration && passes n) declared
+        ∙ (λ i. list_any (λ n. nat_lt n.place declaration.place && (named-same n i && passes n)) declared)
+        ∙ declared-pass (λ n d. nat_lt n.place d.place && (are_named n d && test n d))
+        ∙ (λ i. list_any (λ first. regroup_before (is_kind kind first) (is_before first row)
+        (are_named (seen_declared first) (seen_declared row)) (test (seen_declared first) (seen_declared row)) i) rows)
+
+-- ---- faults
+
+abbrev differ_in_types : SeenDeclared → SeenDeclared → Bool
+differ_in_types first second = not (same_types nat_cmp first.params second.params)
+
+abbrev differ_in_result : SeenDeclared → SeenDeclared → Bool
+differ_in_result first second = not (same_type nat_cmp first.result second.result)
+
+abbrev one_is_static : SeenDeclared → SeenDeclared → Bool
+one_is_static first second = first.is_static || second.is_static
+
+module _ (members : ClassMembers) (rows : List (Row ℕ)) (kept : AreKept members rows) (declaration : Declaration) (row : Row ℕ)
+    (seen : seen_declaration declaration ≡ seen_declared row) where
+  pub method-differs_before : namesakes.differences_before declaration members.methods ≡ differing (faulty_here a_method rows row)
+  method-differs_before = λ i. record {
+    types = earlier-pass a_method members.methods rows kept.methods declaration row seen differ_in_types i;
+    result = earlier-pass a_method members.methods rows kept.methods declaration row seen differ_in_result i;
+  }
+
+  pub constructor-differs_before : (namesakes.differences_before declaration members.constructors).types
+      ≡ (faulty_here a_constructor rows row).overload
+  constructor-differs_before =
+      earlier-pass a_constructor members.constructors rows kept.constructors declaration row seen differ_in_types
+
+  pub method-differs : namesakes.differences declaration members.methods ≡ differing (faulty_below a_method rows row)
+  method-differs = λ i. record {
+    types = namesakes-pass a_method members.methods rows kept.methods declaration row seen differ_in_types i;
+    result = namesakes-pass a_method members.methods rows kept.methods declaration row seen differ_in_result i;
+  }
+
+  pub method-hides : namesakes.hides_static declaration members.methods ≡ (faulty_below a_method rows row).static
+  method-hides = namesakes-pass a_method members.methods rows kept.methods declaration row seen one_is_static
+
+-- ---- from their parts
+
+abbrev from_parts : Bool → Differences → Bool → Faulty
+from_parts duplicate differences static =
+    record { duplicate = duplicate; overload = differences.types; result = differences.result; static = static }
+
+pub here-made : (kind : MemberKind) (rows : List (Row ℕ)) (row : Row ℕ) (duplicate : Bool) (differences : Differences)
+    → duplicate ≡ list_any (λ first. repeats first row) rows → differences ≡ differing (faulty_here kind rows row)
+    → from_parts duplicate differences false ≡ faulty_here kind rows row
+here-made kind rows row duplicate differences repeated differs = (λ i. from_parts (repeated i) (differs i) false) ∙ by kind where
+  by : (kind : MemberKind) → from_parts (list_any (λ first. repeats first row) rows) (differing (faulty_here kind rows row)) false
+      ≡ faulty_here kind rows row
+  by a_field = refl
+  by a_method = refl
+  by a_constructor = refl
+
+pub below-made : (rows : List (Row ℕ)) (row : Row ℕ) (differences : Differences) (static : Bool)
+    → differences ≡ differing (faulty_below a_method rows row) → static ≡ (faulty_below a_method rows row).static
+    → from_parts false differences static ≡ faulty_below a_method rows row
+below-made rows row differences static differs hides = λ i. from_parts false (differs i) (hides i)

@@ -1,0 +1,4 @@
+pub mod KeptFaults
+pub mod KeptInOrder
+pub mod FaultsAbove
+pub mod ClassRows

@@ -1,0 +1,8 @@
+//! The faults between members of source files: of one class, or of a class and its ancestors.
+#![tactic(auto)]
+
+mod class_members;
+mod related;
+mod rows;
+
+pub use related::Related;

@@ -1,0 +1,161 @@
+//! The faults between members.
+ghost use Rattle.std.specs.Prelude.{◌≡◌, ◌<◌, IfOk, Some, flat_map, length, slice_get};
+ghost use Rattle.jav_scope.specs.declared.source.SourceUnit.{SourceUnit};
+ghost use Rattle.mol_beside.specs.Between.{faulty_below, faulty_here};
+ghost use Rattle.mol_beside.specs.Classes.{either, rows_above, rows_of};
+ghost use Rattle.mol_beside.specs.Kept.{faulty_of};
+ghost use Rattle.mol_members.specs.Rows.{kept_row};
+ghost use Rattle.mol_name_faults.specs.First.{all_noted};
+ghost use Rattle.mol_related.specs.Tables.{AreKeptOf};
+ghost use Rattle.mol_sources.specs.Sources.{file_of, files_of};
+ghost use Rattle.mol_spell.specs.FaultLists.{faults_beside};
+ghost use Rattle.mol_spell.specs.MemberFaults.{a_method};
+ghost use Rattle.mol_spell.specs.ResolveFaults.{rows_in};
+
+use crate::class_members::ClassMembers;
+use crate::rows::place_of;
+use jav_ancestors::next_up;
+use jav_scope::Scope;
+use jav_tree::Member;
+use mol_base::{OutOfMemory, number_of};
+use mol_beside::Faulty;
+use mol_members::{MemberRow, Members};
+use mol_name_faults::FirstFault;
+use std::alloc::Global;
+use std::marker::Model;
+
+/// The members of source files, to be asked for the faults between them. Contracts see the files.
+#[derive(Drop)]
+pub struct Related<'a> {
+    scope: &'a Scope<'a>,
+    members: &'a Members<'a>,
+    /// Of each file those of its class.
+    classes: Vec<ClassMembers<'a>>,
+}
+
+impl<'a> Model for Related<'a> {
+    ghost use Rattle.std.specs.Prelude.{List};
+    ghost use Rattle.std.specs.Coded.{coded_list};
+    ghost use Rattle.jav_scope.specs.contracts.source.SourceUnit as source;
+    ghost use Rattle.jav_scope.specs.declared.source.SourceUnit.{SourceUnit};
+    ghost use Rattle.mol_related.specs.Tables.{AreRelated};
+
+    ghost Value = { List SourceUnit };
+
+    ghost coded = { coded_list source.the_row.coded };
+
+    ghost view = { λ related. related.scope.now };
+
+    ghost invariant = { λ related. AreRelated related.scope.now related.members.now related.classes.items };
+}
+
+impl<'a> Related<'a> {
+    /// The members of so many files, of which a scope is made. The time is near-linear.
+    pub fn new(
+        alloc: Global,
+        scope: &'a Scope<'a>,
+        members: &'a Members<'a>,
+        count: usize,
+    ) -> Result<Related<'a>, OutOfMemory>
+        requires same { members.now ≡ scope.now }
+        requires count { count ≡ length scope.now }
+        ensures { IfOk result (λ related. related ≡ scope.now) }
+    {
+        let count = number_of(count)?;
+        let classes = classes_of(alloc, members, count)?;
+        Ok(Related {
+            scope,
+            members,
+            classes,
+        })
+    }
+
+    /// Notes the faults of the members of the file of this number, beside the others of their class and beside those of its ancestors
+    /// (JLS 8.3, 8.4.2, 8.4.8, 8.8.2). It takes no memory. The time is a look-up for each member, and for each method and ancestor.
+    pub fn note(&self, faults: &mut FirstFault, unit: u32)
+        requires { unit < length self.now }
+        ensures { (source : SourceUnit) → slice_get self.now unit ≡ Some source → faults.new
+            ≡ all_noted faults.old (flat_map (faults_beside (files_of self.now)) (rows_in (files_of self.now) (unit, file_of source))) }
+    {
+        let rows = self.members.of_file(unit);
+        for row in rows {
+            let faulty = self.faulty(unit, row);
+            faulty.note(faults, place_of(row.member));
+        }
+    }
+
+    /// The faults of a member of the class of this number.
+    fn faulty(&self, unit: u32, row: &'a MemberRow<'a>) -> Faulty
+        requires { unit < length self.now }
+        ensures { faulty_of result ≡ either
+            (faulty_here (kept_row row.now).kind (rows_of (files_of self.now) unit) (kept_row row.now))
+            (faulty_below (kept_row row.now).kind (rows_above (files_of self.now) unit) (kept_row row.now)) }
+    {
+        let here = self.faulty_in(unit, row);
+        match row.member {
+            Member::Field(_) => here,
+            Member::Method(_) => here.or(&self.faulty_above(unit, row)),
+            Member::Ctor(_) => here,
+        }
+    }
+
+    /// Its faults beside the members of that class.
+    fn faulty_in(&self, unit: u32, row: &'a MemberRow<'a>) -> Faulty
+        requires { unit < length self.now }
+        ensures { faulty_of result ≡ faulty_here (kept_row row.now).kind (rows_of (files_of self.now) unit) (kept_row row.now) }
+    {
+        self.classes[unit as usize].faulty_here(row)
+    }
+
+    /// The faults of a method beside the methods of the ancestors of its class.
+    fn faulty_above(&self, unit: u32, row: &'a MemberRow<'a>) -> Faulty
+        ensures { faulty_of result ≡ faulty_below a_method (rows_above (files_of self.now) unit) (kept_row row.now) }
+    {
+        let mut faulty = Faulty {
+            duplicate: false,
+            overload: false,
+            result: false,
+            hides_static: false,
+        };
+        let mut at = unit;
+        // As many steps as there are classes lead past each ancestor.
+        let steps = self.classes.len();
+        for _step in 0..steps {
+            match next_up(self.scope, unit, at) {
+                None => return faulty,
+                Some(next) => {
+                    faulty = faulty.or(&self.faulty_below(next, row));
+                    at = next;
+                },
+            }
+        }
+        faulty
+    }
+
+    /// The faults of a method beside those of the class of this number, which is an ancestor of its class.
+    fn faulty_below(&self, unit: u32, row: &'a MemberRow<'a>) -> Faulty
+        requires { unit < length self.now }
+        ensures { faulty_of result ≡ faulty_below a_method (rows_of (files_of self.now) unit) (kept_row row.now) }
+    {
+        self.classes[unit as usize].faulty_below(row)
+    }
+}
+
+/// The members of each of so many files.
+fn classes_of<'a>(
+    alloc: Global,
+    members: &'a Members<'a>,
+    count: u32,
+) -> Result<Vec<ClassMembers<'a>>, OutOfMemory>
+    requires { count ≡ length members.now }
+    ensures size { IfOk result (λ classes. length classes.items ≡ count) }
+    ensures kept { IfOk result (λ classes. AreKeptOf members.now classes.items) }
+{
+    let mut classes = Vec::new(alloc);
+    for unit in 0..count {
+        let rows = members.of_file(unit);
+        let of_class = ClassMembers::new(alloc, rows)?;
+        classes.push(of_class)?;
+    }
+    Ok(classes)
+}
