@@ -82,7 +82,11 @@ impl<'a> HeaderFaults<'a> {
         note_if(faults, self.doubles[place], FaultKind::DuplicateClass);
         note_if(faults, self.packages[place], FaultKind::PackageIsClass);
         note_if(faults, self.circles[place], FaultKind::SuperCycle);
-        note_if(faults, imports_clash(scope, unit, source), FaultKind::ImportClash);
+        note_if(
+            faults,
+            imports_clash(scope, unit, source),
+            FaultKind::ImportClash,
+        );
         Ok(())
     }
 }

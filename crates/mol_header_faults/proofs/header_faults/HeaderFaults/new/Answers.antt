@@ -10,5 +10,5 @@ invariant_of-result c = record {
   doubles_are = c.in_ok-doubles.ensures;
   packages_are = c.in_ok-packages.ensures;
   circles_are = c.in_ok-circles.ensures
-  ∙ ap (λ (all : List SourceUnit). map (is_in_circle (view_in all)) (range_with_len 0 (length all))) c.requires;
+      ∙ ap (λ (all : List SourceUnit). map (is_in_circle (view_in all)) (range_with_len 0 (length all))) c.requires;
 }
