@@ -1,0 +1,12 @@
+pub mod DataTexts
+pub mod EntriesRead
+pub mod EntriesWritten
+pub mod LogAnswers
+pub mod LogKept
+pub mod LogLaws
+pub mod MembersInOrder
+pub mod NextEntries
+pub mod ParamItems
+pub mod ReadBack
+pub mod RowTexts
+pub mod WrittenLogs

@@ -1,0 +1,15 @@
+//! Logs: the recorded operations of a branch or of a merge, and their form as bytes, both ways.
+#![tactic(auto)]
+
+mod log;
+mod object;
+mod objects;
+mod parts;
+mod reading;
+mod writing;
+
+pub use log::Log;
+pub use mol_entries::Entry;
+pub use mol_lines::LogFault;
+pub use reading::read_log;
+pub use writing::write_log;
