@@ -1,20 +1,12 @@
 -- What an index of simple names finds among imports.
-use Rattle.std.proofs.Common.{◌≡◌, ℕ, suc, ◌+◌, Bool, true, false, cond, List, [], ◌∷◌, map, Option, Some, None, option_copied, find, slice_get, refl, sym, ◌∙◌, ap, arith, bytes_eq}
-use denote.Ref.{Bor}
+use Rattle.std.proofs.Common.{◌≡◌, ℕ, suc, ◌+◌, Bool, true, false, cond, List, [], ◌∷◌, map, Option, Some, None, find, slice_get, refl, sym, ◌∙◌, ap, arith, bytes_eq}
 use Rattle.std.specs.List.{enumerate_from}
-use Rattle.std.specs.Slice.{IsItemAt}
 use Rattle.std.proofs.lemmas.Map.Text.{is_eq-slice_cmp}
-use Rattle.std.proofs.lemmas.Option.{slice_get_past, slice_get-get_or}
 use Rattle.jav_index.specs.Seeking.{is_sought}
 use Rattle.jav_index.specs.declared.entry.Entry.{Entry}
 use Rattle.jav_scope.specs.Entries.{import_entry}
 use Rattle.jav_view.specs.DottedNames.{Name, Names, simple_name}
 use Rattle.jav_view.specs.LookUps.{import_of}
-
--- what a slice has at a place
-pub lent-at : {X : Type 0} (xs : List X) (place : ℕ) (r : Option (Bor X)) → IsItemAt xs place r → option_copied r ≡ slice_get xs place
-lent-at xs place None is = sym (slice_get_past xs place is.3)
-lent-at xs place (Some x) is = sym (slice_get-get_or xs place x.now is.3.0 ∙ ap (λ y. Some y) (sym is.1))
 
 module _ (name : Name) where
   -- what is found where places count from a number on

@@ -76,7 +76,7 @@ module _ {C M X Y R : Type 0} (view : View C M) (here : C → Option X) (there :
     by_here None (Some y) is more = absurd cc
     by_here None None is more = by_above more (above view class)
 
-object-or : {X R : Type 0} (g : X → R) (o : Option X) (a b : Bool) → or_of_object b (answered g (found_or o a))
+pub object-or : {X R : Type 0} (g : X → R) (o : Option X) (a b : Bool) → or_of_object b (answered g (found_or o a))
     ≡ answered g (found_or o (a || b))
 object-or g (Some x) a b = refl
 object-or g None true b = refl

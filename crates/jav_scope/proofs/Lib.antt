@@ -1,4 +1,4 @@
-mod Finding
+pub mod Finding
 mod NamesFound
 pub mod CutTexts
 mod TypesFound
@@ -8,9 +8,9 @@ pub mod ClimbSteps
 pub mod Numbered
 mod MembersListed
 mod MemberOwners
-mod FoundMembers
+pub mod FoundMembers
 mod FoundConstructors
 mod NamePlaces
-mod FewestNames
+pub mod FewestNames
 mod LeftmostFound
 mod VariablesFound

@@ -1,6 +1,7 @@
 -- What going up from a class finds is what the rules find.
 use Rattle.std.proofs.Common.{◌≡◌, ℕ, zero, suc, Bool, true, false, ◌||◌, length, Option, Some, None, option_map, refl, ◌∙◌, ap, bytes_eq}
 use Rattle.jav_scope.proofs.Climbing.{climb-way}
+use Rattle.jav_scope.proofs.FoundMembers.{object-or}
 use Rattle.jav_scope.specs.Answers.{answered, or_of_object}
 use Rattle.jav_scope.specs.Climbs.{above, found_first, look_from, climb}
 use Rattle.jav_view.specs.DottedNames.{Name}
@@ -34,13 +35,6 @@ module _ {C M X R : Type 0} (view : View C M) (key : X → R) (here : C → Opti
         ≡ answered key (found_first o (look_from (above view class) (climb steps view here)))
     by (Some x) more = refl
     by None more = by_above (above view class) more
-
-object-or : {X R : Type 0} (key : X → R) (o : Option X) (ends is_objects : Bool)
-    → or_of_object is_objects (answered key (found_or o ends)) ≡ answered key (found_or o (ends || is_objects))
-object-or key (Some x) ends is_objects = refl
-object-or key None true is_objects = refl
-object-or key None false true = refl
-object-or key None false false = refl
 
 module _ (program : Program) (class : Id) (name : Name) where
   abbrev view : View Id Id

@@ -2,7 +2,8 @@ use Rattle.std.proofs.Common.{◌≡◌, ◌∙◌, Some, None, find, slice_get,
 use Rattle.jav_index.specs.Seeking.{is_sought}
 use Rattle.jav_view.specs.DottedNames.{Name, Names}
 use Rattle.jav_view.specs.LookUps.{import_of}
-use Rattle.jav_imports.proofs.ImportsFound.{lent-at, import-there, import-nowhere}
+use Rattle.jav_imports.proofs.ImportsFound.{import-there, import-nowhere}
+use Rattle.jav_scope.proofs.Finding.{lent-at}
 use Rattle.jav_imports.proofs.import_index.ImportIndex.first.Goals as goal
 
 pub returns-in-Some : goal.returns-in-Some
