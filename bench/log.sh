@@ -1,9 +1,9 @@
 #!/bin/sh
-# Reads logs at the limits of size beside Python's json module and, where it is there, `jq`, on the same file in one run: one
-# of 65,535 entries of all thirteen kinds in turn, and one of 16 MiB with one body. The program reads the header and each
-# entry as a row: it tests keys, stamps, names and texts, and keeps the words of types, values and bodies as they are. Each
-# time is processor time, the least of 5 runs: of the program and of `jq` that of the whole process, of Python that of the
-# calls on the lines, without its start. `jq empty` reads alone; `jq -c .` reads and writes.
+# Reads and writes logs at the limits of size beside Python's json module and, where it is there, `jq`, on the same file in
+# one run: one of 65,535 entries of all thirteen kinds in turn, and one of 16 MiB with one body. The program reads the log
+# whole, to the trees of types, values and bodies, and writes it from these, which must give the same bytes. Each time is
+# processor time, the least of 5 runs: of the program and of `jq` that of the whole process, of Python that of the calls on
+# the lines, without its start. `jq empty` reads alone; `jq -c .` reads and writes.
 # Then logs that are refused, of half the greatest size and of the whole: a line of `[`, of digits, of one text, and line
 # ends alone. The ratio of both times is about 2 where the time is linear.
 # Usage: bench/log.sh [PROGRAM], where PROGRAM is the built crate log_count: crates/log_count/out/log_count after `rt run`
@@ -82,15 +82,19 @@ def measured(words, answer, runs=RUNS):
     return min(float(usage[0]) for usage in usages), max(int(usage[1]) for usage in usages)
 
 
-def timed(log, wanted, runs=RUNS):
-    """The same of the program; ends the script at a wrong answer."""
+def timed(log, wanted, words=(), runs=RUNS):
+    """The same of the program with these words; ends the script at a wrong answer."""
     with open(f"{work}/log", "wb") as out:
         out.write(log)
-    took, peak = measured([program], f"{work}/answer", runs)
-    with open(f"{work}/answer") as answer:
-        if answer.read() != f"{wanted}\n":
-            sys.exit(f"wrong answer, in place of {wanted}: {open(answer.name).read()!r}")
+    took, peak = measured([program, *words], f"{work}/answer", runs)
+    with open(f"{work}/answer", "rb") as answer:
+        if (found := answer.read()) != wanted:
+            sys.exit(f"wrong answer, in place of {wanted[:80]!r}: {found[:80]!r}")
     return took, peak
+
+
+def line(text):
+    return f"{text}\n".encode()
 
 
 def in_python(call):
@@ -105,40 +109,46 @@ def in_python(call):
     return best
 
 
-def compare(name, log, wanted):
+def beside(name, log, took, peak, others):
+    """Prints what the program took, and what others took for the same."""
+    print(f"  {name} by the program: {took * 1e3:.0f} ms, {len(log) / took / 1e6:.0f} MB/s, peak {peak} KiB", flush=True)
+    for other, time_beside in others.items():
+        print(f"  {name} by {other}: {time_beside * 1e3:.0f} ms; ratio of the program to it {took / time_beside:.2f}", flush=True)
+
+
+def compare(name, log):
     lines = log.splitlines()
-    took, peak = timed(log, wanted)
     print(f"{name}: {len(log)} bytes, {len(lines) - 1} entries")
-    print(f"  read by the program: {took * 1e3:.0f} ms, {len(log) / took / 1e6:.0f} MB/s, peak {peak} KiB", flush=True)
-    beside = {
-        "read by Python": in_python(lambda: [json.loads(line) for line in lines]),
-        "read and written by Python": in_python(lambda: [written(json.loads(line)) for line in lines]),
-    }
+    took, peak = timed(log, line(f"entries {len(lines) - 1}"))
+    others = {"Python": in_python(lambda: [json.loads(text) for text in lines])}
     if shutil.which("jq"):
-        beside["read by jq"] = measured(["jq", "empty"], os.devnull)[0]
-        beside["read and written by jq"] = measured(["jq", "-c", "."], os.devnull)[0]
-    for what, time_beside in beside.items():
-        print(f"  {what}: {time_beside * 1e3:.0f} ms; ratio of the program to it {took / time_beside:.2f}", flush=True)
+        others["jq"] = measured(["jq", "empty"], os.devnull)[0]
+    beside("read", log, took, peak, others)
+    took, peak = timed(log, log, ["write"])
+    others = {"Python": in_python(lambda: [written(json.loads(text)) for text in lines])}
+    if shutil.which("jq"):
+        others["jq"] = measured(["jq", "-c", "."], os.devnull)[0]
+    beside("read and written", log, took, peak, others)
 
 
 def refused(name, make, fault):
-    half, _ = timed(make(MOST_BYTES // 2), fault(MOST_BYTES // 2), 3)
-    whole, peak = timed(make(MOST_BYTES), fault(MOST_BYTES), 3)
+    half, _ = timed(make(MOST_BYTES // 2), line(fault(MOST_BYTES // 2)), runs=3)
+    whole, peak = timed(make(MOST_BYTES), line(fault(MOST_BYTES)), runs=3)
     ratio = f"{whole / half:.1f}" if half > 0 else "none"
     times = f"{half * 1e3:.0f} ms for half, {whole * 1e3:.0f} ms for the whole: {ratio}"
     print(f"{name}: {times}, peak {peak} KiB, {fault(MOST_BYTES)}", flush=True)
 
 
-def second_line(line):
+def second_line(text):
     """Makes a header and a line of the size that is left."""
-    return lambda size: HEADER + line(size - len(HEADER) - 1) + b"\n"
+    return lambda size: HEADER + text(size - len(HEADER) - 1) + b"\n"
 
 
 print(f"cores {len(os.sched_getaffinity(0))}, load {os.getloadavg()[0]:.1f}")
 if not shutil.which("jq"):
     print("no jq: its times are left out")
-compare("many entries", many_entries(), f"entries {MOST_ENTRIES}")
-compare("one body", one_body(), "entries 1")
+compare("many entries", many_entries())
+compare("one body", one_body())
 refused("line of [", second_line(lambda size: b"[" * size), lambda _: "NotJson(2)")
 refused("line of digits", second_line(lambda size: b"1" * size), lambda _: "NotJson(2)")
 refused("line of one text", second_line(lambda size: b'"' + b"x" * (size - 2) + b'"'), lambda _: "BadOp(2)")

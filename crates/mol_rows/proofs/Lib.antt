@@ -11,4 +11,3 @@ pub mod Steps
 pub mod FirstLines
 pub mod LineFaults
 pub mod NextRows
-pub mod LinesLeft
