@@ -1,0 +1,2 @@
+pub mod PathsRise
+pub mod FirstInOrder
