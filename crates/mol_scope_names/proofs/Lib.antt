@@ -1,0 +1,4 @@
+pub mod PlacesPushed
+pub mod PlacesPut
+pub mod ScopeKept
+pub mod ParamsPut
