@@ -1,0 +1,3 @@
+pub mod AsAnswered
+pub mod MemberRows
+pub mod MembersThere
