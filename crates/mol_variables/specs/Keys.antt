@@ -1,0 +1,22 @@
+-- Variables and their places as the code has them.
+use Rattle.jav_view.specs.Types.{Header}
+use Rattle.jav_view.specs.Variables.{Place, Variable as Read, local_variable, parameter_variable, field_variable}
+use Rattle.mol_base.specs.declared.ident.Id.{Id}
+use Rattle.mol_variables.specs.declared.place.VariablePlace.{VariablePlace}
+use Rattle.mol_variables.specs.declared.variable.Variable.{Variable}
+use Rattle.mol_variables.specs.declared.variable.Variable.TheVariants as variable
+
+-- a place as the rules on names look at it, in a file with this header
+abbrev pub place_in : Header Id → VariablePlace → Place Id
+place_in header place = record {
+  header = header;
+  class = place.class;
+  locals = place.locals.now;
+  params = place.params.now;
+}
+
+-- of a field its identity
+abbrev pub variable_key : Read Id Id → Variable
+variable_key (local_variable place) = variable.Local place
+variable_key (parameter_variable place) = variable.Param place
+variable_key (field_variable field) = variable.Field field.key
