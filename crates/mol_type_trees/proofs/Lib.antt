@@ -1,0 +1,3 @@
+mod NamesTyped
+mod PrimitiveNames
+mod TypesRead

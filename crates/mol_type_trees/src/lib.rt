@@ -1,0 +1,8 @@
+//! Types that are written in source files, as types of a program.
+#![tactic(auto)]
+
+mod named;
+mod read;
+mod tree;
+
+pub use read::read_type;
