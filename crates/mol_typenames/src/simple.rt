@@ -15,8 +15,9 @@ use mol_base::Text;
 use mol_cells::{is_living_class, name_of, package_of};
 
 impl<'a> ClassFile<'a> {
-    /// What a simple name reads as: an import, the class of the file, a class of its package, in this order (JLS 6.4.1, 7.5.1).
-    pub(crate) fn simple(&self, name: &str) -> TypeReading<'a>
+    /// What a simple name reads as: an import, the class of the file, a class of its package, in this order (JLS 6.4.1, 7.5.1). It takes no
+    /// memory. The time is logarithmic in the numbers of classes and imports.
+    pub fn simple(&self, name: &str) -> TypeReading<'a>
         ensures { reading_of name.now result ≡ simple_type (classes_of self.now) (header_of self.now) name.now }
     {
         if let Some(full) = self.imports.first(name) {
