@@ -1,0 +1,4 @@
+pub mod MadeEntities
+pub mod ListedParams
+pub mod PartsThere
+pub mod ReadAtKeys
