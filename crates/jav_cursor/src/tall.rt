@@ -55,10 +55,10 @@ impl Shape {
     }
 }
 
-/// An expression, its height, and what may follow it.
+/// An expression, its height, and what may follow it. The tree is in a box, as it stands below another one.
 #[derive(Drop)]
 pub struct Tall {
-    pub expr: Expr,
+    pub expr: Boxed<Expr>,
     pub height: usize,
     pub shape: Shape,
 }
@@ -88,52 +88,57 @@ pub fn with(all: Listed, x: Tall) -> Result<Listed, OutOfMemory>
         height: own,
         ..
     } = x;
-    exprs.add(expr)?;
+    exprs.add(expr.into_inner())?;
     Ok(Listed {
         exprs,
         height: height.max(own),
     })
 }
 
-fn make(at: u32, node: ExprNode, height: usize, shape: Shape) -> Tall
-    ensures { result ≡ record { expr = record { at = at; node = node }; height = height; shape = shape } }
+fn make(
+    limits: Limits,
+    at: u32,
+    node: ExprNode,
+    height: usize,
+    shape: Shape,
+) -> Result<Tall, OutOfMemory>
+    ensures { IfOk result (λ y. y ≡ record { expr = record { at = at; node = node }; height = height; shape = shape }) }
 {
-    Tall {
-        expr: Expr { at, node },
+    Ok(Tall {
+        expr: Boxed::new(limits.alloc, Expr { at, node })?,
         height,
         shape,
-    }
+    })
 }
 
 pub fn literal(limits: Limits, token: &Token) -> Result<Tall, OutOfMemory>
     ensures { IfOk result (λ y. y ≡ spec.literal (seen token.now)) }
 {
-    let node = ExprNode::Lit(token.text.copy(limits.alloc)?);
-    Ok(make(token.start, node, 1, Shape::Atom))
+    let text = token.text.copy(limits.alloc)?;
+    make(limits, token.start, ExprNode::Lit(text), 1, Shape::Atom)
 }
 
-pub fn this(token: &Token) -> Tall
-    ensures { result ≡ spec.this (seen token.now) }
+pub fn this(limits: Limits, token: &Token) -> Result<Tall, OutOfMemory>
+    ensures { IfOk result (λ y. y ≡ spec.this (seen token.now)) }
 {
-    make(token.start, ExprNode::This, 1, Shape::Atom)
+    make(limits, token.start, ExprNode::This, 1, Shape::Atom)
 }
 
 pub fn name(limits: Limits, token: &Token) -> Result<Tall, OutOfMemory>
     ensures { IfOk result (λ y. y ≡ spec.name (seen token.now)) }
 {
-    let node = ExprNode::Name(token.text.copy(limits.alloc)?);
-    Ok(make(token.start, node, 1, Shape::Target))
+    let text = token.text.copy(limits.alloc)?;
+    make(limits, token.start, ExprNode::Name(text), 1, Shape::Target)
 }
 
 pub fn dotted(limits: Limits, x: Tall, token: &Token) -> Result<Tall, OutOfMemory>
     requires { x.height < 2 ^ 63 }
     ensures { IfOk result (λ y. y ≡ spec.dotted x (seen token.now)) }
 {
-    let Tall { expr, height, .. } = x;
-    let at = expr.at;
     let text = token.text.copy(limits.alloc)?;
-    let node = ExprNode::Dot(Boxed::new(limits.alloc, expr)?, text);
-    Ok(make(at, node, height + 1, Shape::Target))
+    let at = x.expr.get().at;
+    let node = ExprNode::Dot(x.expr, text);
+    make(limits, at, node, x.height + 1, Shape::Target)
 }
 
 /// `e.name(..)`.
@@ -142,12 +147,11 @@ pub fn called_on(limits: Limits, x: Tall, token: &Token, args: Listed) -> Result
     requires args { args.height < 2 ^ 63 }
     ensures { IfOk result (λ y. y ≡ spec.called_on x (seen token.now) args) }
 {
-    let Tall { expr, height, .. } = x;
-    let at = expr.at;
     let text = token.text.copy(limits.alloc)?;
-    let node = ExprNode::Call(Some(Boxed::new(limits.alloc, expr)?), text, args.exprs);
-    let height = height.max(args.height) + 1;
-    Ok(make(at, node, height, Shape::Invocation))
+    let at = x.expr.get().at;
+    let node = ExprNode::Call(Some(x.expr), text, args.exprs);
+    let height = x.height.max(args.height) + 1;
+    make(limits, at, node, height, Shape::Invocation)
 }
 
 /// `name(..)`.
@@ -155,8 +159,10 @@ pub fn called(limits: Limits, token: &Token, args: Listed) -> Result<Tall, OutOf
     requires { args.height < 2 ^ 63 }
     ensures { IfOk result (λ y. y ≡ spec.called (seen token.now) args) }
 {
-    let node = ExprNode::Call(None, token.text.copy(limits.alloc)?, args.exprs);
-    Ok(make(token.start, node, args.height + 1, Shape::Invocation))
+    let text = token.text.copy(limits.alloc)?;
+    let node = ExprNode::Call(None, text, args.exprs);
+    let height = args.height + 1;
+    make(limits, token.start, node, height, Shape::Invocation)
 }
 
 /// `super.name(..)`.
@@ -169,44 +175,51 @@ pub fn super_called(
     requires { args.height < 2 ^ 63 }
     ensures { IfOk result (λ y. y ≡ spec.super_called at (seen token.now) args) }
 {
-    let node = ExprNode::SuperCall(token.text.copy(limits.alloc)?, args.exprs);
-    Ok(make(at, node, args.height + 1, Shape::Invocation))
+    let text = token.text.copy(limits.alloc)?;
+    let node = ExprNode::SuperCall(text, args.exprs);
+    make(limits, at, node, args.height + 1, Shape::Invocation)
 }
 
 /// `new T(..)`.
-pub fn created(at: u32, ty: TypeName, args: Listed) -> Tall
+pub fn created(limits: Limits, at: u32, ty: TypeName, args: Listed) -> Result<Tall, OutOfMemory>
     requires { args.height < 2 ^ 63 }
-    ensures { result ≡ spec.created at ty args }
+    ensures { IfOk result (λ y. y ≡ spec.created at ty args) }
 {
     let node = ExprNode::New(ty, args.exprs);
-    make(at, node, args.height + 1, Shape::Invocation)
+    make(limits, at, node, args.height + 1, Shape::Invocation)
 }
 
 /// `new T[e]..[]..`.
-pub fn sized(at: u32, base: TypeName, sizes: Listed, empty: u32) -> Tall
+pub fn sized(
+    limits: Limits,
+    at: u32,
+    base: TypeName,
+    sizes: Listed,
+    empty: u32,
+) -> Result<Tall, OutOfMemory>
     requires { sizes.height < 2 ^ 63 }
-    ensures { result ≡ spec.sized at base sizes empty }
+    ensures { IfOk result (λ y. y ≡ spec.sized at base sizes empty) }
 {
     let node = ExprNode::NewArray(base, sizes.exprs, empty);
-    make(at, node, sizes.height + 1, Shape::Array)
+    make(limits, at, node, sizes.height + 1, Shape::Array)
 }
 
 /// `new T[].. {..}`.
-pub fn filled(at: u32, ty: TypeName, items: Listed) -> Tall
+pub fn filled(limits: Limits, at: u32, ty: TypeName, items: Listed) -> Result<Tall, OutOfMemory>
     requires { items.height < 2 ^ 63 }
-    ensures { result ≡ spec.filled at ty items }
+    ensures { IfOk result (λ y. y ≡ spec.filled at ty items) }
 {
     let node = ExprNode::ArrayLit(ty, items.exprs);
-    make(at, node, items.height + 1, Shape::Array)
+    make(limits, at, node, items.height + 1, Shape::Array)
 }
 
 /// Items in braces.
-pub fn braced(at: u32, items: Listed) -> Tall
+pub fn braced(limits: Limits, at: u32, items: Listed) -> Result<Tall, OutOfMemory>
     requires { items.height < 2 ^ 63 }
-    ensures { result ≡ spec.braced at items }
+    ensures { IfOk result (λ y. y ≡ spec.braced at items) }
 {
     let node = ExprNode::Braces(items.exprs);
-    make(at, node, items.height + 1, Shape::Loose)
+    make(limits, at, node, items.height + 1, Shape::Loose)
 }
 
 pub fn indexed(limits: Limits, x: Tall, i: Tall) -> Result<Tall, OutOfMemory>
@@ -214,22 +227,18 @@ pub fn indexed(limits: Limits, x: Tall, i: Tall) -> Result<Tall, OutOfMemory>
     requires i { i.height < 2 ^ 63 }
     ensures { IfOk result (λ y. y ≡ spec.indexed x i) }
 {
-    let at = x.expr.at;
+    let at = x.expr.get().at;
     let height = x.height.max(i.height) + 1;
-    let node = ExprNode::Index(
-        Boxed::new(limits.alloc, x.expr)?,
-        Boxed::new(limits.alloc, i.expr)?,
-    );
-    Ok(make(at, node, height, Shape::Target))
+    let node = ExprNode::Index(x.expr, i.expr);
+    make(limits, at, node, height, Shape::Target)
 }
 
 pub fn in_parens(limits: Limits, at: u32, x: Tall) -> Result<Tall, OutOfMemory>
     requires { x.height < 2 ^ 63 }
     ensures { IfOk result (λ y. y ≡ spec.in_parens at x) }
 {
-    let Tall { expr, height, .. } = x;
-    let node = ExprNode::Paren(Boxed::new(limits.alloc, expr)?);
-    Ok(make(at, node, height + 1, Shape::Atom))
+    let node = ExprNode::Paren(x.expr);
+    make(limits, at, node, x.height + 1, Shape::Atom)
 }
 
 /// An operator before its operand.
@@ -237,10 +246,9 @@ pub fn unary(limits: Limits, op: &Token, x: Tall) -> Result<Tall, OutOfMemory>
     requires { x.height < 2 ^ 63 }
     ensures { IfOk result (λ y. y ≡ spec.unary (seen op.now) x) }
 {
-    let Tall { expr, height, .. } = x;
     let text = op.text.copy(limits.alloc)?;
-    let node = ExprNode::Unary(text, Boxed::new(limits.alloc, expr)?);
-    Ok(make(op.start, node, height + 1, Shape::Loose))
+    let node = ExprNode::Unary(text, x.expr);
+    make(limits, op.start, node, x.height + 1, Shape::Loose)
 }
 
 /// `++` or `--` after its operand.
@@ -248,39 +256,27 @@ pub fn stepped(limits: Limits, x: Tall, op: &Token) -> Result<Tall, OutOfMemory>
     requires { x.height < 2 ^ 63 }
     ensures { IfOk result (λ y. y ≡ spec.stepped x (seen op.now)) }
 {
-    let Tall { expr, height, .. } = x;
-    let at = expr.at;
     let text = op.text.copy(limits.alloc)?;
-    let node = ExprNode::Post(Boxed::new(limits.alloc, expr)?, text);
-    Ok(make(at, node, height + 1, Shape::Loose))
+    let at = x.expr.get().at;
+    let node = ExprNode::Post(x.expr, text);
+    make(limits, at, node, x.height + 1, Shape::Loose)
 }
 
 pub fn cast(limits: Limits, at: u32, ty: TypeName, x: Tall) -> Result<Tall, OutOfMemory>
     requires { x.height < 2 ^ 63 }
     ensures { IfOk result (λ y. y ≡ spec.cast at ty x) }
 {
-    let Tall { expr, height, .. } = x;
-    let node = ExprNode::Cast(ty, Boxed::new(limits.alloc, expr)?);
-    Ok(make(at, node, height + 1, Shape::Loose))
+    let node = ExprNode::Cast(ty, x.expr);
+    make(limits, at, node, x.height + 1, Shape::Loose)
 }
 
 pub fn tested(limits: Limits, x: Tall, ty: TypeName) -> Result<Tall, OutOfMemory>
     requires { x.height < 2 ^ 63 }
     ensures { IfOk result (λ y. y ≡ spec.tested x ty) }
 {
-    let Tall { expr, height, .. } = x;
-    let at = expr.at;
-    let node = ExprNode::InstanceOf(Boxed::new(limits.alloc, expr)?, ty);
-    Ok(make(at, node, height + 1, Shape::Loose))
-}
-
-/// Two expressions in boxes.
-fn boxed_pair(limits: Limits, x: Expr, y: Expr) -> Result<(Boxed<Expr>, Boxed<Expr>), OutOfMemory>
-    ensures { IfOk result (λ pair. (pair.0 ≡ x) × (pair.1 ≡ y)) }
-{
-    let first = Boxed::new(limits.alloc, x)?;
-    let second = Boxed::new(limits.alloc, y)?;
-    Ok((first, second))
+    let at = x.expr.get().at;
+    let node = ExprNode::InstanceOf(x.expr, ty);
+    make(limits, at, node, x.height + 1, Shape::Loose)
 }
 
 pub fn joined(limits: Limits, x: Tall, op: &Token, y: Tall) -> Result<Tall, OutOfMemory>
@@ -288,11 +284,11 @@ pub fn joined(limits: Limits, x: Tall, op: &Token, y: Tall) -> Result<Tall, OutO
     requires y { y.height < 2 ^ 63 }
     ensures { IfOk result (λ z. z ≡ spec.joined x (seen op.now) y) }
 {
-    let at = x.expr.at;
-    let height = x.height.max(y.height) + 1;
-    let (a, b) = boxed_pair(limits, x.expr, y.expr)?;
     let text = op.text.copy(limits.alloc)?;
-    Ok(make(at, ExprNode::Binary(a, text, b), height, Shape::Loose))
+    let at = x.expr.get().at;
+    let height = x.height.max(y.height) + 1;
+    let node = ExprNode::Binary(x.expr, text, y.expr);
+    make(limits, at, node, height, Shape::Loose)
 }
 
 pub fn assigned(limits: Limits, x: Tall, op: &Token, y: Tall) -> Result<Tall, OutOfMemory>
@@ -300,11 +296,11 @@ pub fn assigned(limits: Limits, x: Tall, op: &Token, y: Tall) -> Result<Tall, Ou
     requires y { y.height < 2 ^ 63 }
     ensures { IfOk result (λ z. z ≡ spec.assigned x (seen op.now) y) }
 {
-    let at = x.expr.at;
-    let height = x.height.max(y.height) + 1;
-    let (a, b) = boxed_pair(limits, x.expr, y.expr)?;
     let text = op.text.copy(limits.alloc)?;
-    Ok(make(at, ExprNode::Assign(a, text, b), height, Shape::Loose))
+    let at = x.expr.get().at;
+    let height = x.height.max(y.height) + 1;
+    let node = ExprNode::Assign(x.expr, text, y.expr);
+    make(limits, at, node, height, Shape::Loose)
 }
 
 pub fn chosen(limits: Limits, test: Tall, x: Tall, y: Tall) -> Result<Tall, OutOfMemory>
@@ -313,11 +309,10 @@ pub fn chosen(limits: Limits, test: Tall, x: Tall, y: Tall) -> Result<Tall, OutO
     requires y { y.height < 2 ^ 63 }
     ensures { IfOk result (λ z. z ≡ spec.chosen test x y) }
 {
-    let at = test.expr.at;
+    let at = test.expr.get().at;
     let height = test.height.max(x.height.max(y.height)) + 1;
-    let (a, b) = boxed_pair(limits, x.expr, y.expr)?;
-    let c = Boxed::new(limits.alloc, test.expr)?;
-    Ok(make(at, ExprNode::Cond(c, a, b), height, Shape::Loose))
+    let node = ExprNode::Cond(test.expr, x.expr, y.expr);
+    make(limits, at, node, height, Shape::Loose)
 }
 
 /// The field that goes on from `first` by dots and names.

@@ -30,7 +30,7 @@ impl<F: Fn(Limits, &mut Tokens<'_>, usize, Goal) -> Result<Tall, Stop>> Grammar<
         let pairs = brackets(self.limits, tokens, 1)?;
         let items = self.items(tokens, self.rooms.rest)?;
         let ty = array_of(self.limits, base, pairs)?;
-        Ok(tall::filled(at, ty, items))
+        Ok(tall::filled(self.limits, at, ty, items)?)
     }
 
     /// Pairs of empty brackets after `count` sizes, after the first bracket of those pairs.
@@ -57,7 +57,7 @@ impl<F: Fn(Limits, &mut Tokens<'_>, usize, Goal) -> Result<Tall, Stop>> Grammar<
         if empty > u32::MAX as usize {
             return Err(Stop::OutOfMemory);
         }
-        Ok(tall::sized(at, base, sizes, empty as u32))
+        Ok(tall::sized(limits, at, base, sizes, empty as u32)?)
     }
 
     /// Further sizes, each in brackets, and pairs of empty brackets.
@@ -79,7 +79,7 @@ impl<F: Fn(Limits, &mut Tokens<'_>, usize, Goal) -> Result<Tall, Stop>> Grammar<
         let mut sizes = first;
         for count in 1..self.limits.most {
             if !tokens.is(Sort::Left) {
-                return Ok(tall::sized(at, base, sizes, 0));
+                return Ok(tall::sized(self.limits, at, base, sizes, 0)?);
             }
             tokens.take()?;
             if tokens.is(Sort::Right) {
@@ -89,7 +89,7 @@ impl<F: Fn(Limits, &mut Tokens<'_>, usize, Goal) -> Result<Tall, Stop>> Grammar<
             tokens.expect(Sort::Right)?;
             sizes = tall::with(sizes, size)?;
         }
-        Ok(tall::sized(at, base, sizes, 0))
+        Ok(tall::sized(self.limits, at, base, sizes, 0)?)
     }
 
     /// Sizes and pairs of empty brackets, after the first bracket of `new T[e]..[]..`.
@@ -153,7 +153,7 @@ impl<F: Fn(Limits, &mut Tokens<'_>, usize, Goal) -> Result<Tall, Stop>> Grammar<
         let ty = base_type(self.limits, tokens)?;
         if tokens.is(Sort::Open) {
             let args = self.arguments(tokens, self.rooms.invocation)?;
-            return Ok(tall::created(at, ty, args));
+            return Ok(tall::created(self.limits, at, ty, args)?);
         }
         self.array(tokens, at, ty)
     }

@@ -338,7 +338,7 @@ impl<F: Copy + Fn(Limits, &mut Tokens<'_>, usize, Goal) -> Result<Tall, Stop>> G
         if tokens.is(Sort::Begin) {
             let at = tokens.start();
             let items = self.items(tokens, self.top)?;
-            return Ok(tall::braced(at, items));
+            return Ok(tall::braced(self.limits, at, items)?);
         }
         self.level(tokens, 1)
     }

@@ -183,7 +183,7 @@ impl<F: Fn(Limits, &mut Tokens<'_>, usize, Goal) -> Result<Tall, Stop>> Grammar<
                 if self.rooms.rest == 0 {
                     return Err(Stop::Bad);
                 }
-                Ok(tall::this(tokens.take()?))
+                Ok(tall::this(self.limits, tokens.take()?)?)
             }
             Sort::Super => {
                 if self.rooms.invocation == 0 {

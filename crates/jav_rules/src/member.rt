@@ -17,7 +17,7 @@ use jav_stmt::local::{Variable, variables};
 use jav_stmt::stmt::{Rules, stmt};
 use jav_stmt::stmt_tall::TallBlock;
 use jav_tree::{Block, Ctor, Field, Member, Method, Param, TypeName};
-use mol_base::{List, OutOfMemory, Text};
+use mol_base::{Boxed, List, OutOfMemory, Text};
 
 /// The comments before a member, where it begins, and its modifiers.
 #[derive(Drop)]
@@ -240,7 +240,7 @@ fn field_of(
         words: words.texts(limits)?,
         ty: ty.copy(limits.alloc)?,
         name: variable.name,
-        init: variable.init,
+        init: variable.init.map(Boxed::into_inner),
     }))
 }
 

@@ -86,7 +86,7 @@ fn expression(limits: Limits, tokens: &mut Tokens<'_>, top: usize) -> Result<Exp
     ensures { Reads (spec.expression limits top tokens.old) result tokens.new }
 {
     let tall = expr(limits, tokens, top, Goal::Level(1))?;
-    Ok(tall.expr)
+    Ok(tall.expr.into_inner())
 }
 
 /// Reads what is asked for, and lets go of it.

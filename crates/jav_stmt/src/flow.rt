@@ -27,14 +27,14 @@ use mol_base::{Boxed, List, OutOfMemory, Text};
 /// What stands in the header of a `for` before its first semicolon, or before `:`.
 #[derive(Drop)]
 pub enum HeaderPart {
-    Start(ForStart, usize),
+    Start(Boxed<ForStart>, usize),
     Each(bool, TypeName, Text),
 }
 
 /// What follows `else`.
 #[derive(Drop)]
 pub struct TallElse {
-    pub branch: Else,
+    pub branch: Boxed<Else>,
     pub height: usize,
     pub is_open: bool,
     pub after: List<Text>,
@@ -43,7 +43,7 @@ pub struct TallElse {
 /// An expression, or nothing.
 #[derive(Drop)]
 pub struct Maybe {
-    pub expr: Option<Expr>,
+    pub expr: Option<Boxed<Expr>>,
     pub height: usize,
 }
 
@@ -68,6 +68,7 @@ fn header_let(
         ty,
         names,
     });
+    let start = Boxed::new(limits.alloc, start)?;
     Ok(HeaderPart::Start(start, all.height))
 }
 
@@ -92,10 +93,11 @@ fn header_of(
     header_let(limits, tokens, top, is_final, ty, first)
 }
 
-fn doing(all: Listed) -> HeaderPart
-    ensures { result ≡ spec.doing all }
+fn doing(limits: Limits, all: Listed) -> Result<HeaderPart, OutOfMemory>
+    ensures { IfOk result (λ y. y ≡ spec.doing all) }
 {
-    HeaderPart::Start(ForStart::Do(all.exprs), all.height)
+    let start = Boxed::new(limits.alloc, ForStart::Do(all.exprs))?;
+    Ok(HeaderPart::Start(start, all.height))
 }
 
 /// A header that begins with a name.
@@ -109,7 +111,8 @@ fn header_named(limits: Limits, tokens: &mut Tokens<'_>, top: usize) -> Result<H
         Lead::Declaration(ty) => header_of(limits, tokens, top, false, ty),
         Lead::Part(first) => {
             let x = acting_on(limits, tokens, top, first)?;
-            Ok(doing(actions_after(limits, tokens, top, x)?))
+            let all = actions_after(limits, tokens, top, x)?;
+            Ok(doing(limits, all)?)
         }
     }
 }
@@ -121,7 +124,10 @@ pub fn header(limits: Limits, tokens: &mut Tokens<'_>, top: usize) -> Result<Hea
     ensures low { IfOk result (IsHeaderLow top) }
 {
     match tokens.peek() {
-        Sort::Semi => Ok(HeaderPart::Start(ForStart::None, 0)),
+        Sort::Semi => {
+            let start = Boxed::new(limits.alloc, ForStart::None)?;
+            Ok(HeaderPart::Start(start, 0))
+        }
         Sort::Final => {
             tokens.take()?;
             let ty = whole_type(limits, tokens)?;
@@ -132,7 +138,10 @@ pub fn header(limits: Limits, tokens: &mut Tokens<'_>, top: usize) -> Result<Hea
             header_of(limits, tokens, top, false, ty)
         }
         Sort::Name => header_named(limits, tokens, top),
-        _ => Ok(doing(actions(limits, tokens, top)?)),
+        _ => {
+            let all = actions(limits, tokens, top)?;
+            Ok(doing(limits, all)?)
+        }
     }
 }
 
@@ -183,10 +192,11 @@ fn chained(limits: Limits, stmt: TallStmt) -> Result<TallElse, OutOfMemory>
     let second = Stmt {
         notes: List::new(limits.alloc),
         at: stmt.at,
-        node: stmt.node,
+        node: stmt.node.into_inner(),
     };
+    let branch = Else::If(Boxed::new(limits.alloc, second)?);
     Ok(TallElse {
-        branch: Else::If(Boxed::new(limits.alloc, second)?),
+        branch: Boxed::new(limits.alloc, branch)?,
         height: stmt.height,
         is_open: stmt.is_open,
         after: stmt.after,
@@ -194,37 +204,47 @@ fn chained(limits: Limits, stmt: TallStmt) -> Result<TallElse, OutOfMemory>
 }
 
 /// Any other branch after `else`.
-fn second_branch(branch: TallBlock) -> TallElse
-    ensures { result ≡ spec.second_branch branch }
+fn second_branch(limits: Limits, branch: TallBlock) -> Result<TallElse, OutOfMemory>
+    ensures { IfOk result (λ y. y ≡ spec.second_branch branch) }
 {
-    TallElse {
-        branch: Else::Block(block_of(branch.items, branch.tail)),
+    let block = Else::Block(block_of(branch.items, branch.tail));
+    Ok(TallElse {
+        branch: Boxed::new(limits.alloc, block)?,
         height: branch.height,
         is_open: branch.is_open,
         after: branch.after,
-    }
+    })
 }
 
 /// An `if` without `else`.
-fn short_if(at: u32, test: Expr, height: usize, then: TallBlock, notes: List<Text>) -> TallStmt
+fn short_if(
+    limits: Limits,
+    at: u32,
+    test: Boxed<Expr>,
+    height: usize,
+    then: TallBlock,
+    notes: List<Text>,
+) -> Result<TallStmt, OutOfMemory>
     requires height { height < 2 ^ 63 }
     requires then_height { then.height < 2 ^ 63 }
-    ensures { result ≡ spec.short_if at test height then notes }
+    ensures { IfOk result (λ y. y ≡ spec.short_if at test height then notes) }
 {
     let block = block_of(then.items, then.tail);
-    TallStmt {
+    let node = StmtNode::If(test.into_inner(), block, Else::None);
+    Ok(TallStmt {
         at,
-        node: StmtNode::If(test, block, Else::None),
+        node: Boxed::new(limits.alloc, node)?,
         height: height.max(then.height) + 1,
         is_open: true,
         after: notes,
-    }
+    })
 }
 
 /// An `if` with `else`.
 fn long_if(
+    limits: Limits,
     at: u32,
-    test: Expr,
+    test: Boxed<Expr>,
     height: usize,
     then: TallBlock,
     notes: List<Text>,
@@ -237,9 +257,10 @@ fn long_if(
 {
     let tail = appended(then.tail, notes)?;
     let block = block_of(then.items, tail);
+    let node = StmtNode::If(test.into_inner(), block, second.branch.into_inner());
     Ok(TallStmt {
         at,
-        node: StmtNode::If(test, block, second.branch),
+        node: Boxed::new(limits.alloc, node)?,
         height: height.max(then.height).max(second.height) + 1,
         is_open: second.is_open,
         after: second.after,
@@ -261,7 +282,7 @@ impl<F: Copy + Fn(Limits, &mut Tokens<'_>, usize, Place) -> Result<TallStmt, Sto
             return Ok(chained(self.limits, stmt)?);
         }
         let branch = self.branch(tokens, Place::Plain)?;
-        Ok(second_branch(branch))
+        Ok(second_branch(self.limits, branch)?)
     }
 
     /// `else` and its branch, after the first branch of an `if` and the comments after it.
@@ -269,7 +290,7 @@ impl<F: Copy + Fn(Limits, &mut Tokens<'_>, usize, Place) -> Result<TallStmt, Sto
         &self,
         tokens: &mut Tokens<'_>,
         at: u32,
-        test: Expr,
+        test: Boxed<Expr>,
         height: usize,
         then: TallBlock,
         notes: List<Text>,
@@ -284,7 +305,7 @@ impl<F: Copy + Fn(Limits, &mut Tokens<'_>, usize, Place) -> Result<TallStmt, Sto
     {
         tokens.take()?;
         let second = self.else_branch(tokens)?;
-        Ok(long_if(at, test, height, then, notes, second)?)
+        Ok(long_if(self.limits, at, test, height, then, notes, second)?)
     }
 
     /// What follows the first branch of an `if` and the comments after it.
@@ -292,7 +313,7 @@ impl<F: Copy + Fn(Limits, &mut Tokens<'_>, usize, Place) -> Result<TallStmt, Sto
         &self,
         tokens: &mut Tokens<'_>,
         at: u32,
-        test: Expr,
+        test: Boxed<Expr>,
         height: usize,
         then: TallBlock,
         notes: List<Text>,
@@ -306,7 +327,7 @@ impl<F: Copy + Fn(Limits, &mut Tokens<'_>, usize, Place) -> Result<TallStmt, Sto
         ensures low { IfOk result (λ x. x.height ≤ self.now.top) }
     {
         if then.is_open || !tokens.is(Sort::Else) {
-            return Ok(short_if(at, test, height, then, notes));
+            return Ok(short_if(self.limits, at, test, height, then, notes)?);
         }
         self.with_else(tokens, at, test, height, then, notes)
     }
@@ -317,7 +338,7 @@ impl<F: Copy + Fn(Limits, &mut Tokens<'_>, usize, Place) -> Result<TallStmt, Sto
         &self,
         tokens: &mut Tokens<'_>,
         at: u32,
-        test: Expr,
+        test: Boxed<Expr>,
         height: usize,
         then: TallBlock,
     ) -> Result<TallStmt, Stop>

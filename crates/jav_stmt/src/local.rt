@@ -14,14 +14,14 @@ use jav_expr::expr::expr;
 use jav_expr::primary::Goal;
 use jav_lex::Token;
 use jav_tree::{Declarator, Expr};
-use mol_base::{List, OutOfMemory, Text};
+use mol_base::{Boxed, List, OutOfMemory, Text};
 
 /// A variable of a declaration, and where its name starts.
 #[derive(Drop)]
 pub struct Variable {
     pub at: u32,
     pub name: Text,
-    pub init: Option<Expr>,
+    pub init: Option<Boxed<Expr>>,
 }
 
 /// Variables of a declaration, and the height of the highest first value: 0 where there is none.
@@ -148,7 +148,10 @@ pub fn declarators(
 {
     let mut all = List::new(limits.alloc);
     for Variable { name, init, .. } in variables.into_vec() {
-        all.add(Declarator { name, init })?;
+        all.add(Declarator {
+            name,
+            init: init.map(Boxed::into_inner),
+        })?;
     }
     Ok(all)
 }

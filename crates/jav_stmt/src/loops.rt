@@ -17,27 +17,34 @@ use jav_cursor::tokens::Tokens;
 use jav_expr::expr::expr;
 use jav_expr::primary::Goal;
 use jav_tree::{ForStart, StmtNode, TypeName};
-use mol_base::{List, Text};
+use mol_base::{Boxed, List, OutOfMemory, Text};
 
 /// What stands in the header of a `for` before its second semicolon, and the height of its first part.
 #[derive(Drop)]
 struct ForFront {
-    start: ForStart,
+    start: Boxed<ForStart>,
     height: usize,
     test: Maybe,
 }
 
 /// A statement that ends in a loop body, from all of it but the body's comments and openness.
-fn looped(at: u32, node: StmtNode, height: usize, is_open: bool, after: List<Text>) -> TallStmt
-    ensures { result ≡ record { at = at; node = node; height = height; is_open = is_open; after = after } }
+fn looped(
+    limits: Limits,
+    at: u32,
+    node: StmtNode,
+    height: usize,
+    is_open: bool,
+    after: List<Text>,
+) -> Result<TallStmt, OutOfMemory>
+    ensures { IfOk result (λ y. y ≡ record { at = at; node = node; height = height; is_open = is_open; after = after }) }
 {
-    TallStmt {
+    Ok(TallStmt {
         at,
-        node,
+        node: Boxed::new(limits.alloc, node)?,
         height,
         is_open,
         after,
-    }
+    })
 }
 
 impl<F: Copy + Fn(Limits, &mut Tokens<'_>, usize, Place) -> Result<TallStmt, Stop>> Rules<F> {
@@ -56,8 +63,9 @@ impl<F: Copy + Fn(Limits, &mut Tokens<'_>, usize, Place) -> Result<TallStmt, Sto
         let test = condition(self.limits, tokens, self.top - 1)?;
         let body = self.branch(tokens, Place::Branch)?;
         let height = test.height.max(body.height) + 1;
-        let node = StmtNode::While(test.expr, block_of(body.items, body.tail));
-        Ok(looped(at, node, height, body.is_open, body.after))
+        let block = block_of(body.items, body.tail);
+        let node = StmtNode::While(test.expr.into_inner(), block);
+        Ok(looped(self.limits, at, node, height, body.is_open, body.after)?)
     }
 
     /// The body of a `for`, after its header.
@@ -86,8 +94,10 @@ impl<F: Copy + Fn(Limits, &mut Tokens<'_>, usize, Place) -> Result<TallStmt, Sto
         } = front;
         let inner = test.height.max(updates.height.max(body.height));
         let block = block_of(body.items, body.tail);
-        let node = StmtNode::For(start, test.expr, updates.exprs, block);
-        Ok(looped(at, node, height.max(inner) + 1, body.is_open, body.after))
+        let test = test.expr.map(Boxed::into_inner);
+        let node = StmtNode::For(start.into_inner(), test, updates.exprs, block);
+        let height = height.max(inner) + 1;
+        Ok(looped(self.limits, at, node, height, body.is_open, body.after)?)
     }
 
     /// The rest of a `for` from its second semicolon on.
@@ -117,7 +127,7 @@ impl<F: Copy + Fn(Limits, &mut Tokens<'_>, usize, Place) -> Result<TallStmt, Sto
         &self,
         tokens: &mut Tokens<'_>,
         at: u32,
-        start: ForStart,
+        start: Boxed<ForStart>,
         height: usize,
     ) -> Result<TallStmt, Stop>
         requires nests { NestsStmt self.now.limits self.now.top (F.pre self.now.stmt) (F.post self.now.stmt) }
@@ -159,8 +169,8 @@ impl<F: Copy + Fn(Limits, &mut Tokens<'_>, usize, Place) -> Result<TallStmt, Sto
         let body = self.branch(tokens, Place::Branch)?;
         let height = x.height.max(body.height) + 1;
         let block = block_of(body.items, body.tail);
-        let node = StmtNode::Each(is_final, ty, name, x.expr, block);
-        Ok(looped(at, node, height, body.is_open, body.after))
+        let node = StmtNode::Each(is_final, ty, name, x.expr.into_inner(), block);
+        Ok(looped(self.limits, at, node, height, body.is_open, body.after)?)
     }
 
     #[tactic(auto, unfolding(crate::specs::StmtRules::for_stmt))]

@@ -53,7 +53,7 @@ fn super_start(
     tokens.expect(Sort::Semi)?;
     let height = args.height + 1;
     let node = StmtNode::SuperInit(args.exprs);
-    Ok(closed(limits, at, node, height))
+    Ok(closed(limits, at, node, height)?)
 }
 
 /// An expression as a statement, before its semicolon.
@@ -65,7 +65,8 @@ fn done(limits: Limits, tokens: &mut Tokens<'_>, at: u32, x: Tall) -> Result<Tal
 {
     tokens.expect(Sort::Semi)?;
     let height = x.height + 1;
-    Ok(closed(limits, at, StmtNode::Do(x.expr), height))
+    let node = StmtNode::Do(x.expr.into_inner());
+    Ok(closed(limits, at, node, height)?)
 }
 
 /// The first statement of a constructor, which begins with `super`.
@@ -111,7 +112,7 @@ fn local_of(
         ty,
         names,
     });
-    Ok(closed(limits, at, node, height))
+    Ok(closed(limits, at, node, height)?)
 }
 
 /// A declaration that begins with `final`, or with a primitive type.
@@ -173,7 +174,7 @@ pub fn return_stmt(limits: Limits, tokens: &mut Tokens<'_>, top: usize) -> Resul
     let at = tokens.take()?.start;
     if tokens.is(Sort::Semi) {
         tokens.take()?;
-        return Ok(closed(limits, at, StmtNode::Return(None), 1));
+        return Ok(closed(limits, at, StmtNode::Return(None), 1)?);
     }
     if top <= 1 {
         return Err(Stop::Bad);
@@ -181,7 +182,8 @@ pub fn return_stmt(limits: Limits, tokens: &mut Tokens<'_>, top: usize) -> Resul
     let x = expr(limits, tokens, top - 1, Goal::Level(1))?;
     tokens.expect(Sort::Semi)?;
     let height = x.height + 1;
-    Ok(closed(limits, at, StmtNode::Return(Some(x.expr)), height))
+    let node = StmtNode::Return(Some(x.expr.into_inner()));
+    Ok(closed(limits, at, node, height)?)
 }
 
 #[tactic(auto, unfolding(crate::specs::StmtRules::throw_stmt))]
@@ -198,7 +200,8 @@ pub fn throw_stmt(limits: Limits, tokens: &mut Tokens<'_>, top: usize) -> Result
     let x = expr(limits, tokens, top - 1, Goal::Level(1))?;
     tokens.expect(Sort::Semi)?;
     let height = x.height + 1;
-    Ok(closed(limits, at, StmtNode::Throw(x.expr), height))
+    let node = StmtNode::Throw(x.expr.into_inner());
+    Ok(closed(limits, at, node, height)?)
 }
 
 /// `break;` and `continue;`.
@@ -209,7 +212,7 @@ pub fn word_stmt(limits: Limits, tokens: &mut Tokens<'_>, node: StmtNode) -> Res
 {
     let at = tokens.take()?.start;
     tokens.expect(Sort::Semi)?;
-    Ok(closed(limits, at, node, 1))
+    Ok(closed(limits, at, node, 1)?)
 }
 
 /// `;` alone.
@@ -219,5 +222,5 @@ pub fn empty_stmt(limits: Limits, tokens: &mut Tokens<'_>) -> Result<TallStmt, S
     ensures low { IfOk result (λ x. x.height ≤ 1) }
 {
     let at = tokens.take()?.start;
-    Ok(closed(limits, at, StmtNode::Empty, 1))
+    Ok(closed(limits, at, StmtNode::Empty, 1)?)
 }

@@ -73,7 +73,7 @@ fn added(
     items.add(Stmt {
         notes,
         at: stmt.at,
-        node: stmt.node,
+        node: stmt.node.into_inner(),
     })?;
     Ok(Several {
         items,
@@ -272,7 +272,7 @@ impl<F: Copy + Fn(Limits, &mut Tokens<'_>, usize, Place) -> Result<TallStmt, Sto
             items: block.items,
             tail: block.tail,
         });
-        Ok(closed(self.limits, at, node, height))
+        Ok(closed(self.limits, at, node, height)?)
     }
 
     /// A statement that is no block, no declaration and no `if`.

@@ -4,14 +4,14 @@ ghost use Rattle.jav_stmt.specs.StmtRules as spec;
 
 use jav_cursor::limits::Limits;
 use jav_tree::{Block, Stmt, StmtNode};
-use mol_base::{List, OutOfMemory, Text};
+use mol_base::{Boxed, List, OutOfMemory, Text};
 
 /// A statement without the comments before it, its height, whether it ends in an `if` without `else`, and
 /// the comments that were read after it: none where it does not.
 #[derive(Drop)]
 pub struct TallStmt {
     pub at: u32,
-    pub node: StmtNode,
+    pub node: Boxed<StmtNode>,
     pub height: usize,
     pub is_open: bool,
     pub after: List<Text>,
@@ -28,16 +28,21 @@ pub struct TallBlock {
 }
 
 /// A statement that ends in no `if` without `else`.
-pub fn closed(limits: Limits, at: u32, node: StmtNode, height: usize) -> TallStmt
-    ensures { result ≡ spec.closed at node height }
+pub fn closed(
+    limits: Limits,
+    at: u32,
+    node: StmtNode,
+    height: usize,
+) -> Result<TallStmt, OutOfMemory>
+    ensures { IfOk result (λ y. y ≡ spec.closed at node height) }
 {
-    TallStmt {
+    Ok(TallStmt {
         at,
-        node,
+        node: Boxed::new(limits.alloc, node)?,
         height,
         is_open: false,
         after: List::new(limits.alloc),
-    }
+    })
 }
 
 /// The texts of both lists.
@@ -60,7 +65,7 @@ pub fn wrapped(limits: Limits, notes: List<Text>, stmt: TallStmt) -> Result<Tall
     items.add(Stmt {
         notes,
         at: stmt.at,
-        node: stmt.node,
+        node: stmt.node.into_inner(),
     })?;
     Ok(TallBlock {
         items,
