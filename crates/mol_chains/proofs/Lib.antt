@@ -1,0 +1,3 @@
+mod ChainsBegun
+pub mod LocalsNamed
+pub mod ParameterPlaces

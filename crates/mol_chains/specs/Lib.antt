@@ -1,0 +1,2 @@
+pub mod InMembers
+pub mod Spelled
