@@ -1,0 +1,73 @@
+//! Parameters, read with their types.
+ghost use Rattle.std.specs.Prelude.{◌≡◌, IfOk, option_map};
+ghost use Rattle.std.specs.Option.{option_zip};
+ghost use Rattle.mol_meant.specs.Kept.{view_reading};
+ghost use Rattle.mol_member_entities.specs.Headings.{all_read, listed_as, params_read, put_last};
+ghost use Rattle.mol_reads.specs.Reads.{Reads};
+
+use jav_tree::Param as NamedParam;
+use mol_base::{Id, List, OutOfMemory};
+use mol_entities::{listed, note_repeated};
+use mol_meant::ReadType;
+use mol_name_faults::FirstFault;
+use mol_reads::Names;
+use mol_values::Param;
+use std::alloc::Global;
+
+/// The parameters of a declaration, which begins at this place in its file, each with its identity. None, where the type of one reads as
+/// nothing, which is noted; that two have one name is noted after the types. The time is that of reading the types, and of comparing each
+/// name with those after it.
+pub fn read_params<N: Names>(
+    alloc: Global,
+    names: &N,
+    faults: &mut FirstFault,
+    at: u32,
+    ids: &[Id],
+    params: &[NamedParam],
+) -> Result<Option<List<Param>>, OutOfMemory>
+    ensures { IfOk result (λ list. Reads (params_read ids.now (N.reader names.now) at params.now) list faults.old faults.new) }
+{
+    let list = read_all(alloc, names, faults, at, ids, params)?;
+    note_repeated(faults, at, params);
+    Ok(list)
+}
+
+/// Parameters with their types, one after the other; none where one has no meaning.
+fn read_all<N: Names>(
+    alloc: Global,
+    names: &N,
+    faults: &mut FirstFault,
+    at: u32,
+    ids: &[Id],
+    params: &[NamedParam],
+) -> Result<Option<List<Param>>, OutOfMemory>
+    ensures { IfOk result (λ list. Reads (all_read ids.now (N.reader names.now) at params.now) list faults.old faults.new) }
+{
+    let mut list = Some(List::new(alloc));
+    for (id, param) in ids.iter().zip(params) {
+        let read = names.read_type(alloc, faults, at, &param.ty)?;
+        list = one_more(alloc, list, *id, param, read)?;
+    }
+    Ok(list)
+}
+
+/// One more parameter after others, where its type is read.
+fn one_more(
+    alloc: Global,
+    list: Option<List<Param>>,
+    id: Id,
+    param: &NamedParam,
+    read: Option<ReadType>,
+) -> Result<Option<List<Param>>, OutOfMemory>
+    ensures { IfOk result (λ longer. longer
+        ≡ option_map put_last (option_zip list (option_map (listed_as id param.now) (view_reading read)))) }
+{
+    let Some(mut list) = list else {
+        return Ok(None);
+    };
+    let Some(read) = read else {
+        return Ok(None);
+    };
+    list.add(listed(alloc, id, param, read.tree)?)?;
+    Ok(Some(list))
+}
