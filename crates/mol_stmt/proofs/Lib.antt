@@ -1,0 +1,6 @@
+pub mod AfterElse
+pub mod BlockStatements
+pub mod InTurn
+pub mod StatementNodes
+pub mod Taken
+pub mod TreesRead

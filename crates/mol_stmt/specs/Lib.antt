@@ -1,0 +1,4 @@
+pub mod GoesOn
+pub mod Loops
+pub mod Made
+pub mod Statements
