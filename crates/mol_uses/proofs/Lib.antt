@@ -1,0 +1,4 @@
+pub mod Added
+pub mod ModeFree
+pub mod TypesUsed
+pub mod UsesNodes
