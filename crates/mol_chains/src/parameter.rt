@@ -15,8 +15,8 @@ pub struct Parameter {
     pub id: Id,
 }
 
-/// The place of the parameter of a name, of several the first, from 0 (JLS 6.4.1). It takes no memory, and the time is linear in their
-/// number.
+/// The place of the parameter of a name, from 0. Java allows no second of one name (JLS 8.4.1); where there are several all the same, the
+/// first counts here. It takes no memory, and the time is linear in their number.
 pub fn place_of(params: &[Parameter], name: &Text) -> Option<usize>
     ensures is { result ≡ position (has_name name.now) params.now }
     ensures inside { IfSome result (λ place. place < length params.now) }

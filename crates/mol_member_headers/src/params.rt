@@ -14,9 +14,10 @@ use mol_reads::Names;
 use mol_values::Param;
 use std::alloc::Global;
 
-/// The parameters of a declaration, which begins at this place in its file, each with its identity. None, where the type of one reads as
-/// nothing, which is noted; that two have one name is noted after the types. The time is that of reading the types, and of comparing each
-/// name with those after it.
+/// The parameters of a declaration, which begins at this place in its file, in bytes from 0. One identity is given for each of them, in
+/// the same order; parameters or identities that are over are left out of the list. `None` where the type of a parameter reads as
+/// nothing, which is noted; that two have one name is noted after the types. `Err` is want of memory; of `faults` nothing is said then.
+/// The time is that of reading the types, and of comparing each name with those after it.
 pub fn read_params<N: Names>(
     alloc: Global,
     names: &N,
@@ -32,7 +33,8 @@ pub fn read_params<N: Names>(
     Ok(list)
 }
 
-/// Parameters with their types, one after the other; none where one has no meaning.
+/// Parameters with their types, one after the other; `None` where the type of one has no meaning. Parameters or identities that are
+/// over are not read.
 fn read_all<N: Names>(
     alloc: Global,
     names: &N,

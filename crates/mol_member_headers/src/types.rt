@@ -12,7 +12,8 @@ use mol_reads::Names;
 use mol_values::IType;
 use std::alloc::Global;
 
-/// A type in a member that begins at this place in its file. None, where its name reads as nothing, which is noted.
+/// A type in a member that begins at this place in its file, in bytes from 0. `None` where its name reads as nothing, which is noted.
+/// `Err` is want of memory; of `faults` nothing is said then.
 pub fn read_tree<N: Names>(
     alloc: Global,
     names: &N,

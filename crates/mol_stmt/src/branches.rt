@@ -52,7 +52,8 @@ impl<N: Names> StmtReader<'_, N> {
         }
     }
 
-    /// A statement after `else`: where it is no `if`, it is in a block of its own.
+    /// A statement after `else`. Where it is no `if`, it becomes a block's only statement, though what it declares stays in scope after
+    /// it; no tree that the parser makes has such a statement here.
     #[cycle(read_stmt)]
     fn else_if(
         &self,

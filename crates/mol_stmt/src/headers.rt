@@ -19,11 +19,14 @@ use mol_reads::Names;
 use mol_values::{IBlock, IExpr, IForStart, IStmtNode, IType};
 use std::alloc::Global;
 
-/// The header of a loop, as it is read.
+/// The header of a loop, as it is read. It is handed on in a box: a call that may have to let go of a bare one is dear to prove.
 #[derive(Drop)]
 pub(crate) enum Header {
+    /// `while`: the test.
     While(IExpr),
+    /// `for`: what stands before its first `;`, its test if it has one, and its steps.
     For(IForStart, Option<IExpr>, List<IExpr>),
+    /// `for` over the items of a value: whether the local is final, its type and its name, and the value.
     Each(bool, IType, Text, IExpr),
 }
 

@@ -113,7 +113,7 @@ pub(crate) fn else_if(alloc: Global, branches: Option<IIf>) -> Result<Option<IEl
     }
 }
 
-/// A statement after `else` that is no `if`, in a block of its own.
+/// A statement after `else` that is no `if`, as the only one of a block.
 pub(crate) fn else_block(
     alloc: Global,
     statement: Option<IStmt>,

@@ -20,8 +20,9 @@ use mol_reads::Names;
 use mol_values::{IBlock, IBody, IExpr, IStmt, IStmtNode};
 use std::alloc::Global;
 
-/// Statements at a place in source files. What is read of them by identity is none where something in it has no meaning; its faults are
-/// noted. `Err` is want of memory.
+/// Reads the statements of a member in source files. Each call answers the tree of a program, in which names stand for identities, or
+/// `None` where some part of what it reads has no meaning; the faults of all parts are noted either way. `Err` is want of memory; of
+/// `faults` nothing is said then.
 #[derive(Clone, Copy)]
 pub struct StmtReader<'a, N> {
     pub alloc: Global,
@@ -39,7 +40,7 @@ impl<N: Names> StmtReader<'_, N> {
         Ok(parts::body_of(block))
     }
 
-    /// The first value of a field, if it has one. Outer `None`: it has no meaning.
+    /// The first value of a field, if it has one. Outer `None`: it has no meaning. The time is linear in its size, but for what names cost.
     pub fn initial(
         &self,
         faults: &mut FirstFault,

@@ -14,7 +14,8 @@ use mol_base::{Boxed, List, OutOfMemory};
 use mol_values::{Argument, IExpr};
 use std::alloc::Global;
 
-/// Where expressions and types of a program are written. `Err` of its calls is want of memory.
+/// Writes expressions and types of a program as trees of a source file, at the place that `names` knows. As they come from no source,
+/// each `at` in these trees is 0. `Err` of its calls is want of memory.
 #[derive(Clone, Copy)]
 pub struct ExprWriter<'a, N> {
     pub alloc: Global,
@@ -22,7 +23,7 @@ pub struct ExprWriter<'a, N> {
 }
 
 impl<N: Names> ExprWriter<'_, N> {
-    /// An expression as it is written. The time is linear in its size, but for what names cost.
+    /// An expression as it is written, with each `at` 0. The time is linear in its size, but for what names cost.
     #[cycle(write_expr)]
     pub fn expr(&self, e: &IExpr) -> Result<Expr, OutOfMemory>
         ensures { IfOk result (λ tree. tree
@@ -83,7 +84,7 @@ impl<N: Names> ExprWriter<'_, N> {
         Boxed::new(self.alloc, tree)
     }
 
-    /// Expressions as they are written, one after the other.
+    /// Expressions as they are written, one after the other, with each `at` 0.
     #[cycle(write_expr)]
     pub fn exprs(&self, items: &[IExpr]) -> Result<List<Expr>, OutOfMemory>
         ensures { IfOk result (λ trees. trees
@@ -97,7 +98,7 @@ impl<N: Names> ExprWriter<'_, N> {
         Ok(trees)
     }
 
-    /// The values of arguments as they are written, one after the other.
+    /// The values of arguments as they are written, one after the other, with each `at` 0.
     #[cycle(write_expr)]
     pub fn arguments(&self, args: &[Argument]) -> Result<List<Expr>, OutOfMemory>
         ensures { IfOk result (λ trees. trees

@@ -33,7 +33,7 @@ pub trait Names {
     fn local_name(&self, number: u32) -> &str
         ensures { result.now ≡ local_text (locals self.now) number };
 
-    /// The name of a parameter; `$` where no method has it.
+    /// The name of a parameter; `$` where it is not, or no longer, in the list of its method.
     fn param_name(&self, id: &Id) -> &str
         ensures { result.now ≡ param_name (writer self.now) (locals self.now) id.now };
 
@@ -41,7 +41,8 @@ pub trait Names {
     fn owner_of(&self, field: &Id) -> Option<Id>
         ensures { result ≡ owner_at (writer self.now).program field.now };
 
-    /// The class in which a static method or a constructor is declared, if it is declared.
+    /// The class in which a static method or a constructor is declared, which need not live; of several declarations the first
+    /// counts. `None` where nothing declares it, or the declaration has no class.
     fn declaring_class(&self, method: &Id) -> Option<Id>
         ensures { result ≡ class_of_only_declaration (writer self.now).program method.now };
 

@@ -9,7 +9,7 @@ use jav_tree::{Expr, ExprNode, TypeName};
 use mol_base::{Boxed, List, OutOfMemory, Text};
 use std::alloc::Global;
 
-/// An expression that is this.
+/// An expression of this kind, at place 0.
 pub(crate) fn made(node: ExprNode) -> Expr
     ensures { result ≡ made node }
 {
