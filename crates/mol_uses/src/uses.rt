@@ -1,6 +1,7 @@
 //! What several names use.
-ghost use Rattle.std.specs.Prelude.{◌≡◌, ◌++◌, ◌∷◌, [], OnOk};
+ghost use Rattle.std.specs.Prelude.{◌≡◌, ◌++◌, ◌∷◌, [], OnOk, map};
 ghost use Rattle.mol_spelling.specs.Writers.{importable_use, outside_import, program_class, written_use};
+ghost use Rattle.mol_uses.specs.Kept.{kept_use};
 
 use crate::used::Use;
 use mol_base::{Id, OutOfMemory, Text};
@@ -33,6 +34,13 @@ impl Uses {
             alloc,
             items: Vec::new(alloc),
         }
+    }
+
+    /// What is used, in that order. It takes no memory.
+    pub fn items(&self) -> &[Use]
+        ensures { map kept_use result.now ≡ self.now }
+    {
+        self.items.as_slice()
     }
 
     /// A class is used, whose simple name is hidden there or not.
