@@ -6,7 +6,7 @@ use mol_base::OutOfMemory;
 use std::alloc::Global;
 
 /// Of each place of a list, where as many steps lead from it as the list is long, or more: a step leads to the place that stands
-/// there. The time is near-linear.
+/// there. The time is near-linear. `Err` is want of memory.
 pub fn far(alloc: Global, links: &[u32]) -> Result<Vec<u32>, OutOfMemory>
     requires { All (λ link. link < length links.now) links.now }
     ensures { IfOk result (λ far. LeadsFar links.now far.items) }

@@ -11,7 +11,7 @@ use mol_base::{OutOfMemory, number_of};
 use std::alloc::Global;
 
 /// Of each class of source files, of which there are so many, whether following superclasses from it comes back to it (JLS 8.1.4). The
-/// scope is made of these files. The time is near-linear.
+/// scope is made of these files. The time is near-linear. `Err` is want of memory.
 pub fn circles(alloc: Global, scope: &Scope<'_>, count: usize) -> Result<Vec<bool>, OutOfMemory>
     requires { count ≡ length scope.now }
     ensures { IfOk result (λ circles. circles.items

@@ -11,9 +11,10 @@ use jav_types::StaticType;
 use mol_base::OutOfMemory;
 use std::alloc::Global;
 
-/// The static type of a choice `?:` between values of these types (JLS 15.25): the one where they are equal; unread where nothing is known
-/// of what they have in common; the other where one is null; of two classes the one that is an ancestor of the other; else mixed. The
-/// scope is made of so many files. The time is that of the ways up from two classes.
+/// The static type of a choice `?:` between values of these types (JLS 15.25), by the first of these that holds. Both are one type: that
+/// type. Nothing is known of what they have in common: unread. One is the type of `null`: the other. Both are classes, one above the
+/// other: the upper class, and in a circle of superclasses the first. Else mixed. `count` is the number of files of which the scope is
+/// made. The time is that of the ways up from two classes. `Err` is want of memory.
 pub fn common(
     alloc: Global,
     scope: &Scope<'_>,

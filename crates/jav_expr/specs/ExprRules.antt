@@ -37,7 +37,7 @@ is_assignment sort.Equals = true
 is_assignment sort.Compound = true
 is_assignment _ = false
 
--- whether the operand of a cast to a type that is not primitive begins so
+-- whether what is cast to a class or array type may begin with such a token (JLS 15.16)
 abbrev pub begins_operand : Sort → Bool
 begins_operand sort.Name = true
 begins_operand sort.Literal = true

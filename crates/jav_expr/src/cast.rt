@@ -15,7 +15,7 @@ use jav_cursor::tokens::Tokens;
 use jav_cursor::types::{Names, array_of, brackets, primitive, qualified};
 use jav_tree::TypeName;
 
-/// Whether the operand of a cast to a type that is not primitive begins so.
+/// Whether what is cast to a class or array type may begin with such a token (JLS 15.16).
 fn begins_operand(sort: Sort) -> bool
     ensures { result ≡ spec.begins_operand sort }
 {

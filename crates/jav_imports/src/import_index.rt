@@ -33,7 +33,7 @@ impl<'a> Model for ImportIndex<'a> {
 }
 
 impl<'a> ImportIndex<'a> {
-    /// An index of these full names. The time is that of sorting the simple names.
+    /// An index of these full names. The time is that of sorting the simple names. `Err` is want of memory.
     pub fn new(alloc: Global, imports: &'a [Text]) -> Result<ImportIndex<'a>, OutOfMemory>
         ensures { IfOk result (λ index. index ≡ imports.now) }
     {

@@ -1,4 +1,5 @@
--- Expressions that may be statements, and what begins with names where a declaration may stand too, are in the grammar, and what is refused could have gone on.
+-- Expressions that may be statements, and what begins with names where a declaration may stand too, are in the grammar, and
+-- what is refused could have gone on.
 use Rattle.std.proofs.Common.{◌≡◌, inl, ℕ, ◌-◌, ◌<◌, ◌≤◌, ◌||◌, not, Bool, true, false, List, [], ◌∷◌, ◌++◌, Some, None, nat_eq, nat_le, if◌then◌else◌, refl, sym, ◌∙◌, subst, append_assoc, arith}
 use Rattle.std.proofs.Math.Numerals.{add-one}
 use Rattle.std.proofs.lemmas.List.{append-nil}

@@ -1,4 +1,5 @@
--- Expressions of level 15 and array creations that are read are in the grammar, within the room for their shape, and what is refused could have gone on.
+-- Expressions of level 15 and array creations that are read are in the grammar, within the room for their shape, and what is
+-- refused could have gone on.
 use Rattle.std.proofs.Common.{◌≡◌, inl, inr, ℕ, zero, suc, ◌+◌, ◌-◌, ◌<◌, max, ◌||◌, Bool, true, false, List, [], ◌∷◌, ◌++◌, nat_eq, nat_le, refl, sym, subst, append_assoc, arith}
 use Rattle.std.proofs.Math.Numerals.{add-one}
 use Rattle.std.proofs.lemmas.List.{append-nil}

@@ -10,7 +10,7 @@ use mol_base::{List, OutOfMemory};
 use std::alloc::Global;
 
 /// The text of a source file in the one layout. The time is linear in the tree and its text. It parses back
-/// where the tree is printable.
+/// where the tree is printable. `Err` is want of memory.
 #[tactic(auto, using(crate::proofs::Printings::unit_back))]
 pub fn print(alloc: Global, unit: &Unit) -> Result<List<u8>, OutOfMemory>
     ensures same { IfOk result (λ text. text ≡ unit_text unit.now) }
@@ -22,6 +22,7 @@ pub fn print(alloc: Global, unit: &Unit) -> Result<List<u8>, OutOfMemory>
 }
 
 /// The text of a body by itself: at the left margin, without a line end after its last brace.
+/// `Err` is want of memory.
 #[tactic(auto, using(crate::proofs::Printings::body_back))]
 pub fn print_body(alloc: Global, body: &Block) -> Result<List<u8>, OutOfMemory>
     ensures same { IfOk result (λ text. text ≡ body_alone body.now) }
@@ -32,7 +33,7 @@ pub fn print_body(alloc: Global, body: &Block) -> Result<List<u8>, OutOfMemory>
     Ok(page.into_bytes())
 }
 
-/// The text of a type.
+/// The text of a type. `Err` is want of memory.
 #[tactic(auto, using(crate::proofs::Printings::type_back))]
 pub fn print_type(alloc: Global, ty: &TypeName) -> Result<List<u8>, OutOfMemory>
     ensures same { IfOk result (λ text. text ≡ type_text ty.now) }

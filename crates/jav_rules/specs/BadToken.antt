@@ -70,7 +70,7 @@ end_of [] = 0
 end_of (t ∷ []) = t.end
 end_of (t ∷ u ∷ rest) = end_of (u ∷ rest)
 
--- There is a bad token, the first such that no tree within the limits begins with the tokens up to and with it, and this is
+-- There is a bad token: the tokens before it can go on to a tree within the limits, and with it they no longer can. This is
 -- its fault.
 pub record FirstBad (language : Language) (ts : List Token) (f : ParseFault) : Type 0 where
   pub front : List Token

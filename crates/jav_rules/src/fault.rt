@@ -1,8 +1,8 @@
 //! Why tokens have no tree.
 use crate::feature::Feature;
 
-/// What is wrong with tokens that are no tree, and the byte at which the bad token starts: the first one
-/// such that no tree within the limits begins with the tokens up to it and with it.
+/// What is wrong with tokens that are no tree, and the byte, from 0, at which the bad token starts: what
+/// stands before it can go on to a tree within the limits, and together with it no longer can.
 #[derive(Clone, Copy, Debug, PartialEq, Eq, thiserror::Error)]
 pub enum ParseFault {
     /// No tree begins so; or, at the end of the last token, the tokens end too early.

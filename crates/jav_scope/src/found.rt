@@ -30,6 +30,6 @@ pub enum VarRef {
 #[derive(Clone, Copy)]
 pub enum Leftmost {
     Var(VarRef),
-    /// A class, and how many of the names spell it: the fewest that do.
+    /// A class by the number of its file, and the number of names in its shortest spelling, from 1.
     Class(u32, u32),
 }

@@ -45,6 +45,7 @@ impl<'a> Model for Scope<'a> {
 
 impl<'a> Scope<'a> {
     /// The scope of source files. The time is near-linear in their size: full names, imports and members are sorted by their names.
+    /// `Err` is want of memory.
     pub fn new(alloc: Global, units: &'a List<SourceUnit>) -> Result<Scope<'a>, OutOfMemory>
         ensures { IfOk result (λ scope. scope ≡ units.now) }
     {

@@ -43,8 +43,8 @@ impl Scope<'_> {
         }
     }
 
-    /// What the first of several names reads as that are joined by dots, in the same place: a variable, or a class and how many of
-    /// the names spell it, the fewest that do; else it is outside (JLS 6.5.2). It takes no memory. The time is that of `variable`
+    /// What the first of several names reads as that are joined by dots, in the same place: a variable, or a class with the number
+    /// of names in its shortest spelling, from 1; else it is outside (JLS 6.5.2). It takes no memory. The time is that of `variable`
     /// and, for each of the names, logarithmic in the number of classes.
     pub fn leftmost(
         &self,

@@ -14,14 +14,14 @@ use Rattle.jav_tree.specs.Operators.{IsBinary, IsAssignment, IsStep, IsPrefix, B
 abbrev pub expr_at : ℕ → ExprNode → Expr
 expr_at at n = record { at = at; node = n }
 
--- The operand of a cast to a type that is not primitive does not begin with `+ - ++ --` (JLS 15.16).
+-- Whether a cast may have this operand: only after a primitive type may it begin with `+`, `-`, `++` or `--` (JLS 15.16).
 abbrev pub MayBeCast : TypeName → List Token → Type 0
 MayBeCast to operand = (is_primitive to ≡ true) ⊎ (¬ (BeginsWithSign operand))
 
 -- what an expression of level 15 is
 pub data Shape : Type 0 where
-  -- a name, a field access or an array access, without parentheses: what may stand left of an assignment,
-  -- and what `++` and `--` may change (JLS 15.14.2, 15.15.1, 15.26)
+  -- a variable: a name, a field or an item of an array, with no parentheses around it. It may stand left of an
+  -- assignment, and `++` and `--` may change it (JLS 15.14.2, 15.15.1, 15.26)
   target : Shape
   -- a call, or `new T(..)`: what is a statement as it stands (JLS 14.8)
   invocation : Shape

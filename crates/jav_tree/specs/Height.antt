@@ -1,5 +1,5 @@
--- How high a tree is. An expression, a statement or a block that holds no other has height 1, every
--- other one is one higher than the highest that it holds. The greatest u32 stands for all that is higher.
+-- How high a tree is: the length of the longest way down in it, counted in expressions, statements and blocks.
+-- So a name or an empty block is 1 high. The greatest u32 stands for all that is higher.
 use Rattle.std.specs.Prelude.{ℕ, ◌+◌, max, min, List, [], ◌∷◌, Option, Some, None, map, option_map}
 use Rattle.jav_tree.specs.declared.expr.Expr.{Expr, fold-Expr}
 use Rattle.jav_tree.specs.declared.expr.ExprNode.{ExprNode, fold-ExprNode}

@@ -17,7 +17,7 @@ pub struct Block {
 #[derive(Drop)]
 pub struct Stmt {
     pub notes: List<Text>,
-    /// The offset of its first token that is no comment, in bytes.
+    /// Where its first token stands in the source, comments left out: in bytes, from 0.
     pub at: u32,
     pub node: StmtNode,
 }

@@ -57,7 +57,7 @@ pub struct Field {
 #[derive(Drop)]
 pub struct Method {
     pub front: List<Text>,
-    /// The offset of its first token that is no comment, in bytes.
+    /// Where its first token stands in the source, comments left out: in bytes, from 0.
     pub at: u32,
     /// Its modifiers but `static` and `abstract`, in the order in which they are printed;
     /// `@Override` is first.
@@ -74,7 +74,7 @@ pub struct Method {
 #[derive(Drop)]
 pub struct Ctor {
     pub front: List<Text>,
-    /// The offset of its first token that is no comment, in bytes.
+    /// Where its first token stands in the source, comments left out: in bytes, from 0.
     pub at: u32,
     /// Its modifiers.
     pub words: List<Text>,

@@ -15,7 +15,7 @@ use mol_base::{Boxed, OutOfMemory, Text};
 use std::alloc::Global;
 
 /// A type as it is written in the file of this number, from 0, as the rules on names look at it (JLS 4, 6.5.5). A name of no type gives the
-/// type that is unread. The time is that of `type_reading`, and linear in the length of the type's text.
+/// type that is unread. The time is that of `type_reading`, and linear in the length of the type's text. `Err` is want of memory.
 pub fn seen_type(
     alloc: Global,
     scope: &Scope<'_>,

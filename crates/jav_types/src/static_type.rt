@@ -30,7 +30,7 @@ pub enum StaticType {
 }
 
 impl StaticType {
-    /// That of a value of a type: a variable, a call or a cast (JLS 6.5.6, 15.11.1, 15.12.3, 15.16).
+    /// That of a value of a type: a variable, a call or a cast (JLS 6.5.6, 15.11.1, 15.12.3, 15.16). `Err` is want of memory.
     pub fn of_type(alloc: Global, ty: &SeenType) -> Result<StaticType, OutOfMemory>
         ensures { IfOk result (λ value. view_value value ≡ of_type (view_type ty.now)) }
     {
@@ -55,7 +55,7 @@ impl StaticType {
         }
     }
 
-    /// That of an item of a value (JLS 15.10.3). Of what has no items it is mixed.
+    /// That of an item of a value (JLS 15.10.3). Of what has no items it is mixed. `Err` is want of memory.
     pub fn item(&self, alloc: Global) -> Result<StaticType, OutOfMemory>
         ensures { IfOk result (λ value. view_value value ≡ item (view_value self.now)) }
     {
@@ -78,7 +78,7 @@ impl StaticType {
     }
 
     /// That of a call of a method outside, on a value of this type and with so many arguments: `clone()` of an array gives an array of
-    /// its type (JLS 10.7).
+    /// its type (JLS 10.7). `Err` is want of memory.
     pub fn outside_call(
         &self,
         alloc: Global,

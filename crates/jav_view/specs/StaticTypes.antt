@@ -96,9 +96,9 @@ abbrev pub AreUnrelated : {C M : Type 0} → View C M → StaticType C → Stati
 AreUnrelated {C} view first second = (left right : C) → first ≡ class_value left → second ≡ class_value right
     → ¬ (IsAncestor view left right ⊎ IsAncestor view right left)
 
--- The static type of a choice `?:` between two values (JLS 15.25): the common type where their types are equal; else unread where
--- nothing is known of what they have in common; else that of the other where one is null; of two classes the one that is an ancestor of
--- the other, and of two in a circle of superclasses the first; else mixed.
+-- The static type of a choice `?:` between two values (JLS 15.25), by the first of these that holds. Both have one type: that type.
+-- Nothing is known of what they have in common: unread. One value is null: the type of the other. Both are of classes, one
+-- above the other: the upper class, and in a circle of superclasses the first. Else mixed.
 pub data ReadsCommon {C M : Type 0} (view : View C M) : StaticType C → StaticType C → StaticType C → Type 0 where
   of_equal : {first second : StaticType C} → SameValue first second → ReadsCommon view first second first
   of_unread : {first second : StaticType C} → IsTrue (are_unread first second) → ReadsCommon view first second unread_value

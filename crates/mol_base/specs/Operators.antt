@@ -31,7 +31,7 @@ steps = "++" ∷ "--" ∷ []
 abbrev pub prefixes : List String
 prefixes = "+" ∷ "-" ∷ "!" ∷ "~" ∷ []
 
--- what no operand of a cast to a type that is not primitive begins with (JLS 15.16)
+-- signs: with these begins nothing that is cast to a class or array type (JLS 15.16)
 abbrev pub signs : List String
 signs = "+" ∷ "-" ∷ "++" ∷ "--" ∷ []
 

@@ -42,7 +42,7 @@ impl Id {
         Some(Id { tag, num })
     }
 
-    /// The tag, `:` and the number in decimal.
+    /// The tag, `:` and the number in decimal. `Err` is want of memory.
     pub fn write(&self, alloc: Global) -> Result<Text, OutOfMemory>
         ensures { IfOk result (λ text. text ≡ spelled_id self.now) }
     {
@@ -65,7 +65,7 @@ impl Stamp {
         Some(Stamp { tag, seq })
     }
 
-    /// The tag, `@` and the number in decimal.
+    /// The tag, `@` and the number in decimal. `Err` is want of memory.
     pub fn write(&self, alloc: Global) -> Result<Text, OutOfMemory>
         ensures { IfOk result (λ text. text ≡ spelled_stamp self.now) }
     {

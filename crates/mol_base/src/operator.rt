@@ -57,8 +57,8 @@ pub fn is_prefix(text: &[u8]) -> bool
     is_among(&PREFIXES, text)
 }
 
-/// Whether the text is what no operand of a cast to a type that is not primitive begins with: `+`, `-`,
-/// `++` or `--` (JLS 15.16). It takes no memory.
+/// Whether the text is a sign, `+`, `-`, `++` or `--`: with these begins nothing that is cast to a class or
+/// array type (JLS 15.16). It takes no memory.
 pub fn is_sign(text: &[u8]) -> bool
     ensures { result ≡ spec.is_sign text.now }
 {

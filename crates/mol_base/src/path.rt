@@ -9,6 +9,7 @@ use std::alloc::Global;
 /// `.`, then `/`, the name and `.java`.
 ///
 /// The package is names joined by `.`, the name is the simple one; any bytes are taken.
+/// `Err` is want of memory.
 pub fn path_of(alloc: Global, package: &[u8], name: &[u8]) -> Result<Vec<u8>, OutOfMemory>
     ensures { IfOk result (λ path. path.items ≡ spec.path_of «package».now name.now) }
 {

@@ -71,7 +71,7 @@ impl Text {
         }
     }
 
-    /// A text that equals a `str`.
+    /// A text that equals a `str`. `Err` is want of memory.
     pub fn from_str(alloc: Global, chars: &str) -> Result<Text, OutOfMemory>
         ensures { IfOk result (λ text. text ≡ chars.now) }
     {

@@ -13,8 +13,8 @@ use mol_words::{BadWord, Cursor, Fault, whole};
 use std::alloc::Global;
 
 /// The body that the words spell: at most 500 high, each local by its number among those in scope (JLS 6.3, 14).
-/// `BadWord::Bad` names the first word up to which no such body begins so, or the number of words where they end
-/// early; words after the end of a body are bad.
+/// `BadWord::Bad` has a place among the words, from 0: that of the first word with which they are no longer the
+/// front of such a body, or how many they are where they are but a front of one.
 pub fn read_body(alloc: Global, words: &[Text]) -> Result<IBody, BadWord>
     ensures { IsReading (IsBody (most Height)) words.now result }
 {

@@ -19,6 +19,7 @@ use mol_words::Written;
 use std::alloc::Global;
 
 /// The words of a body, as a log has them. They are in the form wherever any words of the body are.
+/// `Err` is want of memory.
 pub fn write_body(alloc: Global, body: &IBody) -> Result<List<Text>, OutOfMemory>
     ensures words { IfOk result (λ words. words ≡ spec.body_words body.now) }
     ensures form { IfOk result (λ words. (d : ℕ) (ts : Items (Items ℕ)) → IsBody d body.now ts → IsBody d body.now words) }

@@ -12,7 +12,7 @@ use std::alloc::Global;
 
 /// The static type of a choice `?:` between values of these types (JLS 15.25): the one where they are equal; the second where the first is
 /// null, and the first where the second is; of two classes the one that is an ancestor of the other; else mixed. In a program no type is
-/// unread. The time is that of the ways up from two classes, and linear in the lengths of the types.
+/// unread. The time is that of the ways up from two classes, and linear in the lengths of the types. `Err` is want of memory.
 pub fn common<'a>(
     alloc: Global,
     members: &MemberIndex<'_>,

@@ -40,6 +40,7 @@ impl<'a> Model for ClassIndex<'a> {
 
 impl<'a> ClassIndex<'a> {
     /// The classes of a table. The time is that of a few look-ups for each known identity, and of sorting the full names.
+    /// `Err` is want of memory.
     pub fn new(alloc: Global, table: &'a Table) -> Result<ClassIndex<'a>, OutOfMemory>
         ensures { IfOk result (λ index. index ≡ table.now) }
     {

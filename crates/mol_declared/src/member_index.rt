@@ -35,7 +35,7 @@ impl<'a> Model for MemberIndex<'a> {
 
 impl<'a> MemberIndex<'a> {
     /// The classes and members of a table. The time is near-linear in the number of known identities and the length of their names, which
-    /// are sorted.
+    /// are sorted. `Err` is want of memory.
     pub fn new(alloc: Global, table: &'a Table) -> Result<MemberIndex<'a>, OutOfMemory>
         ensures { IfOk result (λ index. index ≡ table.now) }
     {

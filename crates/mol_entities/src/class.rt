@@ -21,7 +21,7 @@ struct Header {
 }
 
 /// The class of a source file by its identity, with the type that it extends, if it extends one. The time is linear in its comments and
-/// modifiers.
+/// modifiers. `Err` is want of memory.
 pub fn class_entity(
     alloc: Global,
     id: Id,

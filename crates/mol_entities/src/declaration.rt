@@ -11,7 +11,7 @@ use mol_values::{IBody, Kind, Value};
 use std::alloc::Global;
 
 /// A declaration by its identity and those of its class and its method, with its modifiers, the comments before it and its body, which
-/// an abstract method does not have. The time is linear in its comments and modifiers.
+/// an abstract method does not have. The time is linear in its comments and modifiers. `Err` is want of memory.
 pub fn declaration_entity(
     alloc: Global,
     id: Id,

@@ -13,7 +13,7 @@ use mol_values::{IExpr, IType, Kind, Value};
 use std::alloc::Global;
 
 /// A field by its identity and that of its class, with its type and its first value, if it has one. The time is linear in its comments
-/// and modifiers.
+/// and modifiers. `Err` is want of memory.
 pub fn field_entity(
     alloc: Global,
     id: Id,

@@ -19,7 +19,7 @@ struct MethodName {
 }
 
 /// A method by its identity, with the type of what it gives and its parameters; a constructor has an empty name and gives `void`. It is
-/// fixed where `java.lang.Object` has a method of this name and number of parameters.
+/// fixed where `java.lang.Object` has a method of this name and number of parameters. `Err` is want of memory.
 pub fn method_entity(
     alloc: Global,
     id: Id,

@@ -8,7 +8,7 @@ use mol_base::{Id, OutOfMemory, Text};
 use mol_values::{IType, Param};
 use std::alloc::Global;
 
-/// A parameter by its identity, with its type as it is read.
+/// A parameter by its identity, with its type as it is read. `Err` is want of memory.
 pub fn listed(alloc: Global, id: Id, param: &NamedParam, ty: IType) -> Result<Param, OutOfMemory>
     ensures { IfOk result (λ item. (type : ViewType ℕ) → item ≡ listed (id, (param.now, record { tree = ty; type = type }))) }
 {

@@ -110,7 +110,7 @@ impl<N: Names> ExprReader<'_, N> {
         Ok(Some(Meant::this(self.alloc, self.names.class())?))
     }
 
-    /// Expressions that stand alone, one after the other; none where one has no value.
+    /// Expressions that stand alone, one after the other; none where one has no value. `Err` is want of memory.
     #[cycle(read_expr)]
     pub fn all(
         &self,

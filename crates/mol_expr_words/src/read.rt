@@ -18,8 +18,8 @@ use std::alloc::Global;
 pub const MAX_HEIGHT: u32 = 500;
 
 /// The first value of a field that the words spell: at most 500 high, without local variables. `BadWord::Bad`
-/// names the first word up to which no such expression begins so, or the number of words where they end early;
-/// words after the end of an expression are bad.
+/// has a place among the words, from 0: that of the first word with which they are no longer the front of such
+/// an expression, or how many they are where they are but a front of one.
 pub fn read_expr(alloc: Global, words: &[Text]) -> Result<IExpr, BadWord>
     ensures { IsReading (IsExpr Role.First (most Height) []) words.now result }
 {

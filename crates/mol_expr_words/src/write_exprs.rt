@@ -13,7 +13,7 @@ use mol_words::Written;
 use std::alloc::Global;
 
 /// The words of an expression, as a log has them. They are in the form wherever any words of the expression
-/// are.
+/// are. `Err` is want of memory.
 pub fn write_expr(alloc: Global, e: &IExpr) -> Result<List<Text>, OutOfMemory>
     ensures words { IfOk result (λ words. words ≡ expr_words e.now) }
     ensures form { IfOk result (λ words. (r : Role) (d : ℕ) (s : Items ℕ) (ts : Items (Items ℕ)) →
@@ -24,7 +24,7 @@ pub fn write_expr(alloc: Global, e: &IExpr) -> Result<List<Text>, OutOfMemory>
     Ok(words.into_list())
 }
 
-/// Adds the words of an expression.
+/// Adds the words of an expression. `Err` is want of memory.
 #[cycle(write_expr)]
 pub fn add_expr(words: &mut Written, e: &IExpr) -> Result<(), OutOfMemory>
     ensures { OnOk result (words.new ≡ words.old ++ expr_words e.now) }
@@ -173,7 +173,7 @@ fn cast(words: &mut Written, e: &IExpr, ty: &IType) -> Result<(), OutOfMemory>
     add_expr(words, e)
 }
 
-/// Adds how many arguments there are, and their words.
+/// Adds how many arguments there are, and their words. `Err` is want of memory.
 #[cycle(write_expr)]
 pub fn add_arguments(words: &mut Written, args: &[Argument]) -> Result<(), OutOfMemory>
     ensures { OnOk result (words.new ≡ words.old ++ counted (map argument_words args.now)) }
@@ -193,7 +193,7 @@ fn add_argument(words: &mut Written, arg: &Argument) -> Result<(), OutOfMemory>
     add_expr(words, &arg.value)
 }
 
-/// Adds how many expressions there are, and their words.
+/// Adds how many expressions there are, and their words. `Err` is want of memory.
 #[cycle(write_expr)]
 pub fn add_exprs(words: &mut Written, es: &[IExpr]) -> Result<(), OutOfMemory>
     ensures { OnOk result (words.new ≡ words.old ++ counted (map expr_words es.now)) }

@@ -133,7 +133,7 @@ impl<'a> Finder<'a> {
         }
     }
 
-    /// The identities of the parameters of a method that was found here, in their order.
+    /// The identities of the parameters of a method that was found here, in their order. `Err` is want of memory.
     pub fn param_ids(&self, alloc: Global, method: &FoundMethod<'_>) -> Result<Vec<Id>, OutOfMemory>
         requires { HasMethod self.now method.now }
         ensures { IfOk result (λ ids. (declared : ViewDeclaration ℕ MemberKey) → IsMethod self.now declared method.now

@@ -43,6 +43,7 @@ impl<'a> Model for HeaderFaults<'a> {
 
 impl<'a> HeaderFaults<'a> {
     /// Those of these files, of which the scope is made. The time is near-linear in the texts of full names and packages.
+    /// `Err` is want of memory.
     pub fn new(
         alloc: Global,
         scope: &Scope<'_>,

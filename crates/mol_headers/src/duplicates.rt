@@ -9,7 +9,7 @@ use mol_base::OutOfMemory;
 use std::alloc::Global;
 
 /// Of each class of source files whether another has its full name (JLS 7.6). The scope is made of these files. The time is that of a
-/// look-up for each class.
+/// look-up for each class. `Err` is want of memory.
 pub fn doubles(
     alloc: Global,
     scope: &Scope<'_>,

@@ -13,7 +13,7 @@ use mol_base::{OutOfMemory, Text};
 use std::alloc::Global;
 
 /// Of each class of source files whether its full name is the package of a class, or such a package begins with it and a dot
-/// (JLS 7.1). The time is that of sorting the packages, and of a look-up among them for each class.
+/// (JLS 7.1). The time is that of sorting the packages, and of a look-up among them for each class. `Err` is want of memory.
 pub fn packages(alloc: Global, sources: &[SourceUnit]) -> Result<Vec<bool>, OutOfMemory>
     ensures { IfOk result (λ packages. packages.items ≡ failing kind.package_is_class sources.now) }
 {

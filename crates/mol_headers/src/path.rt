@@ -9,6 +9,7 @@ use mol_base::{OutOfMemory, path_of};
 use std::alloc::Global;
 
 /// Whether the path of a file is not that of its package and class (JLS 7.6). It is no matter which files there are besides.
+/// `Err` is want of memory.
 pub fn path_differs(alloc: Global, source: &SourceUnit) -> Result<bool, OutOfMemory>
     ensures { IfOk result (λ differs. (sources : List SourceUnit) (number : ℕ)
         → differs ≡ fails sources kind.path_differs (number, source.now)) }

@@ -30,7 +30,7 @@ impl Entry {
     }
 }
 
-/// Adds an entry to a list, if there is one.
+/// Adds an entry to a list, if there is one. `Err` is want of memory.
 pub fn add_entry(entries: &mut Vec<Entry>, entry: Option<Entry>) -> Result<(), OutOfMemory>
     ensures { OnOk result (entries.new.items ≡ entries.old.items ++ option_to_list entry) }
 {

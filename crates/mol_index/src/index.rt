@@ -28,7 +28,7 @@ impl Model for Index {
 }
 
 impl Index {
-    /// An index of these entries. What it finds is what is first among them. The time is that of sorting them.
+    /// An index of these entries. What it finds is what is first among them. The time is that of sorting them. `Err` is want of memory.
     pub fn new(mut entries: Vec<Entry>) -> Result<Index, OutOfMemory>
         ensures { IfOk result (λ index. FindsSame index entries.items) }
     {

@@ -14,7 +14,7 @@ pub enum Leftmost<'a> {
 /// What the first of several names is that is no variable.
 #[derive(Clone, Copy)]
 pub enum FirstType<'a> {
-    /// A class that lives, and how many of the names spell it: the fewest that do.
+    /// A class that lives, and the number of names in its shortest spelling, from 1.
     Class(Id, usize),
     /// An outside type that is imported, by its full name.
     Imported(&'a Text),

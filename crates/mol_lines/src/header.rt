@@ -147,7 +147,7 @@ fn ascend(tags: &[Tag]) -> bool
     tags.is_sorted_by(|tag, next| tag < next)
 }
 
-/// The object of a header.
+/// The object of a header. `Err` is want of memory.
 pub fn header_value(
     alloc: Global,
     base_digest: &[u8; 32],

@@ -22,7 +22,7 @@ impl<'a> LastNumbers<'a> {
     ghost use Rattle.mol_lines.specs.Headers.{ascend};
     ghost use Rattle.mol_lines.specs.Stamps.{Knows, may_follow as follows};
 
-    /// Those of no stamp. The tags ascend.
+    /// Those of no stamp. The tags ascend. `Err` is want of memory.
     pub fn new(alloc: Global, tags: &'a [Tag]) -> Result<LastNumbers<'a>, OutOfMemory>
         requires { ascend tags.now ≡ true }
         ensures { IfOk result (λ last. Knows last tags.now []) }

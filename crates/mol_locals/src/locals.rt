@@ -56,7 +56,8 @@ impl Locals {
         self.declared.as_slice()
     }
 
-    /// The number of the nearest local in scope of a name (JLS 6.4.1): one of those that were declared. It takes no memory, and about the same time however many there are.
+    /// The number of the nearest local in scope of a name (JLS 6.4.1): one of those that were declared. `None` where no local in scope
+    /// has it. It takes no memory, and about the same time however many there are.
     pub fn find(&self, name: &Text) -> Option<u32>
         ensures is { result ≡ nearest_local (locals_of self.now) name.now }
         ensures inside { (n : ℕ) → result ≡ Some n → n < length self.now.declared }

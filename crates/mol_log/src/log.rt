@@ -20,7 +20,7 @@ pub struct Log {
 impl Log {
     ghost use Rattle.std.specs.Prelude.{◌≡◌, ◌<◌, [], ◌∷◌, IfOk, length};
 
-    /// A log of one tag without entries. The tag is not that of a base.
+    /// A log of one tag without entries. The tag is not that of a base. `Err` is want of memory.
     pub fn empty(alloc: Global, base_digest: [u8; 32], tag: Tag) -> Result<Log, OutOfMemory>
         requires { 0 < length tag }
         ensures digest { IfOk result (λ log. log.base_digest ≡ base_digest) }

@@ -24,7 +24,7 @@ pub struct Meant {
 }
 
 impl Meant {
-    /// An expression that is not `this`.
+    /// An expression that is not `this`. `Err` is want of memory.
     pub fn new(alloc: Global, tree: IExpr, ty: StaticType) -> Result<Meant, OutOfMemory>
         ensures { IfOk result (λ value. view_meant value ≡ made tree (view_value ty)) }
     {
@@ -36,7 +36,7 @@ impl Meant {
         })
     }
 
-    /// An expression of a type: a variable or a call (JLS 6.5.6, 15.12.3).
+    /// An expression of a type: a variable or a call (JLS 6.5.6, 15.12.3). `Err` is want of memory.
     pub fn of_type(alloc: Global, tree: IExpr, ty: &SeenType) -> Result<Meant, OutOfMemory>
         ensures { IfOk result (λ value. view_meant value ≡ made tree (of_type (view_type ty.now))) }
     {
@@ -49,7 +49,7 @@ impl Meant {
         })
     }
 
-    /// `this` in a class, by the number of its file (JLS 15.8.3).
+    /// `this` in a class, by the number of its file (JLS 15.8.3). `Err` is want of memory.
     pub fn this(alloc: Global, class: u32) -> Result<Meant, OutOfMemory>
         ensures { IfOk result (λ value. view_meant value ≡ this_in class) }
     {
@@ -61,7 +61,7 @@ impl Meant {
         })
     }
 
-    /// A literal by its text (JLS 15.8.1).
+    /// A literal by its text (JLS 15.8.1). `Err` is want of memory.
     pub fn literal(alloc: Global, text: &Text) -> Result<Meant, OutOfMemory>
         ensures { IfOk result (λ value. view_meant value ≡ made (exprs.Lit text.now) (of_literal text.now)) }
     {
@@ -70,6 +70,7 @@ impl Meant {
     }
 
     /// A name that is nothing of the program, such as a field of a superclass outside (JLS 6.5.6.1).
+    /// `Err` is want of memory.
     pub fn outside_name(alloc: Global, name: &Text) -> Result<Meant, OutOfMemory>
         ensures { IfOk result (λ value. view_meant value ≡ made (exprs.OutsideName name.now) outside_value) }
     {
@@ -77,7 +78,7 @@ impl Meant {
         Meant::new(alloc, tree, StaticType::Outside)
     }
 
-    /// The name of an imported class outside, by its full name (JLS 7.5.1).
+    /// The name of an imported class outside, by its full name (JLS 7.5.1). `Err` is want of memory.
     pub fn outside_class(alloc: Global, import: &Text) -> Result<Meant, OutOfMemory>
         ensures { IfOk result (λ value. view_meant value ≡ made (exprs.OutsideClass import.now) outside_value) }
     {

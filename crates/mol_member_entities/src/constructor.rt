@@ -11,7 +11,7 @@ use mol_values::{IBody, IType, MethodKind, Param};
 use std::alloc::Global;
 
 /// A declaration of a constructor, of its parameters and its body, and the constructor itself: it has no name and gives `void`. None,
-/// where one of its parts has no meaning.
+/// where one of its parts has no meaning. `Err` is want of memory.
 pub fn constructor_made(
     alloc: Global,
     ids: MemberIds,

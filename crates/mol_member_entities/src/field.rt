@@ -12,6 +12,7 @@ use mol_values::{IExpr, IType};
 use std::alloc::Global;
 
 /// A field, of its type and its first value, if it has one. None, where one of these has no meaning.
+/// `Err` is want of memory.
 pub fn field_made(
     alloc: Global,
     ids: MemberIds,

@@ -11,7 +11,7 @@ use mol_values::{IBody, IType, MethodKind, Param};
 use std::alloc::Global;
 
 /// A declaration of a method, of the type that it gives, its parameters and its body, if it has one; and the method, where this is its
-/// topmost declaration. None, where one of these has no meaning.
+/// topmost declaration. None, where one of these has no meaning. `Err` is want of memory.
 pub fn method_made(
     alloc: Global,
     ids: MemberIds,

@@ -40,6 +40,7 @@ impl<'a> Model for Members<'a> {
 
 impl<'a> Members<'a> {
     /// The members of the files that a scope is made of. The time is that of reading each type.
+    /// `Err` is want of memory.
     pub fn new(
         alloc: Global,
         scope: &Scope<'_>,

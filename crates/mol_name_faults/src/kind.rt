@@ -13,7 +13,8 @@ pub enum FaultKind {
     SuperCycle,
     /// Two imports, or an import and the class of the file, have one simple name and different full names.
     ImportClash,
-    /// Two fields of one name; or two methods of one name, or two constructors, with equal parameter types.
+    /// In one class, fields have one name (JLS 8.3), or methods of one name or constructors have parameters of equal types, in
+    /// order (JLS 8.4.2, 8.8.2).
     DuplicateMember,
     /// Two methods of one name and number of parameters, in a class or in a class and an ancestor, or two constructors that take as
     /// many, have other parameter types.

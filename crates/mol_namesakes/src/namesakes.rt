@@ -37,6 +37,7 @@ impl<'a> Model for Namesakes<'a> {
 
 impl<'a> Namesakes<'a> {
     /// The namesakes among these declarations, which are in the order in which they stand in the class. The time is near-linear.
+    /// `Err` is want of memory.
     pub fn new(alloc: Global, declared: Vec<Declaration<'a>>) -> Result<Namesakes<'a>, OutOfMemory>
         requires { AreInOrder declared.items }
         ensures { IfOk result (λ namesakes. namesakes ≡ declared.entry.items) }

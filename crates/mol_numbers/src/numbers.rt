@@ -104,7 +104,7 @@ impl<'a> Numbers<'a> {
         base_id(self.number(at, 0))
     }
 
-    /// The identities of the parameters of the method of a declaration, which takes so many, in their order.
+    /// The identities of the parameters of the method of a declaration, which takes so many, in their order. `Err` is want of memory.
     pub fn param_ids(
         &self,
         alloc: Global,

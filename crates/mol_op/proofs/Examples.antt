@@ -1,5 +1,6 @@
--- Worked tests. The base has the classes `:1` Cart, `:2` Desk and `:3` Till, the field `:4`, the declarations `:5` total, `:6` tax, `:7` add
--- and `:10` pay, and the methods `:11` total, `:12` tax with the parameter `:13`, and `:14` add with `:15` and `:16`; tax is static.
+-- Worked tests. The base has the classes `:1` Cart, `:2` Desk and `:3` Till, the field `:4`, the declarations `:5` total, `:6` tax,
+-- `:7` add and `:10` pay, and the methods `:11` total, `:12` tax with the parameter `:13`, and `:14` add with `:15` and `:16`; tax is
+-- static.
 use Rattle.std.specs.Prelude.{◌≡◌, ℕ, true, false, List, [], ◌∷◌, codes, None, Some}
 use Rattle.std.proofs.Common.{refl}
 use Rattle.mol_base.specs.declared.ident.Id.{Id}

@@ -28,10 +28,10 @@ const MOST_ENTRIES: u32 = 1_048_576;
 /// files: they are not listed and not opened, a read finds no file there, and a write there fails. So is
 /// a link that leads to nothing no file. A listing goes into linked folders too.
 ///
-/// A listing fails past 1,048,576 entries, and at a name that is not UTF-8. A read and a write fail past
-/// 2,147,483,648 turns, each of which but the last takes a byte or more. What the system refuses is a
-/// failed call, for whatever cause. Want of memory of this program in a write is a failed write; in a
-/// listing or a read it is `FileFail::OutOfMemory` and raises no count.
+/// A listing fails past 1,048,576 entries, and at a name that is not UTF-8. A file is read or written piece
+/// by piece, none of them empty but the last, and a call fails past 2,147,483,648 pieces. What the system
+/// refuses is a failed call, for whatever cause. Want of memory of this program in a write is a failed
+/// write; in a listing or a read it is `FileFail::OutOfMemory` and raises no count.
 #[derive(Drop)]
 pub struct DirFiles<'a, R> {
     rt: &'a R,

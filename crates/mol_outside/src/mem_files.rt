@@ -54,9 +54,9 @@ impl Model for MemFiles {
 impl MemFiles {
     /// Files over memory. Where two have one path, the first counts.
     ///
-    /// A call whose number is in `failing` fails. A write fails too where its path and bytes together
-    /// are more bytes than are left of `room`, and where 8,192 writes went in before. Nothing else
-    /// fails. All memory for files and writes is taken here.
+    /// Calls fail whose numbers stand in `failing`. A write fails too where its path and bytes together
+    /// are more bytes than are left of `room`, and after 8,192 writes that went in. No other call
+    /// fails. All memory for files and writes is taken here: `Err` is want of it.
     pub fn new(
         alloc: Global,
         files: &List<File>,

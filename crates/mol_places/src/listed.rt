@@ -15,7 +15,7 @@ pub struct Listed<'a> {
     pub member: &'a Member,
 }
 
-/// The members of source files, in this order of the files.
+/// The members of source files, in this order of the files. `Err` is want of memory.
 pub fn list_members<'a>(
     alloc: Global,
     sources: &'a [SourceUnit],

@@ -8,7 +8,7 @@ use mol_base::{OutOfMemory, number_of};
 use std::alloc::Global;
 
 /// The numbers of source files in the order of their paths, byte by byte; those of one path in the order in which they stand. The time
-/// is that of a sort.
+/// is that of a sort. `Err` is want of memory.
 pub fn by_path(alloc: Global, sources: &[SourceUnit]) -> Result<Vec<u32>, OutOfMemory>
     ensures { IfOk result (λ order. order.items ≡ numbers_by_path sources.now) }
 {

@@ -41,7 +41,7 @@ impl<'a> Model for Places<'a> {
 }
 
 impl<'a> Places<'a> {
-    /// The places of these files, whose order this is.
+    /// The places of these files, whose order this is. `Err` is want of memory.
     pub fn new(
         alloc: Global,
         sources: &'a [SourceUnit],

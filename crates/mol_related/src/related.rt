@@ -50,7 +50,7 @@ impl<'a> Model for Related<'a> {
 }
 
 impl<'a> Related<'a> {
-    /// The members of so many files, of which a scope is made. The time is near-linear.
+    /// The members of so many files, of which a scope is made. The time is near-linear. `Err` is want of memory.
     pub fn new(
         alloc: Global,
         scope: &'a Scope<'a>,

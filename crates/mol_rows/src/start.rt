@@ -22,7 +22,7 @@ impl Start<'_> {
     ghost use Rattle.std.specs.Prelude.{[], IfOk};
     ghost use Rattle.mol_rows.specs.NextRow.{StandsOn};
 
-    /// The lines that follow, to be read one after the other.
+    /// The lines that follow, to be read one after the other. `Err` is want of memory.
     pub fn rows(&self, alloc: Global) -> Result<Rows<'_>, OutOfMemory>
         ensures { IfOk result (λ rows. StandsOn rows self.now.header.tags [] 2 (lines_left self.now.rest)) }
     {

@@ -33,7 +33,7 @@ impl<'a> Model for ParamNames<'a> {
 }
 
 impl<'a> ParamNames<'a> {
-    /// The names of these parameters. The time is near-linear in their number and the length of their names.
+    /// The names of these parameters. The time is near-linear in their number and the length of their names. `Err` is want of memory.
     pub fn new(alloc: Global, params: &'a [Param]) -> Result<ParamNames<'a>, OutOfMemory>
         ensures { IfOk result (λ names. names ≡ param_names params.now) }
     {

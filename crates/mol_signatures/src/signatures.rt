@@ -32,7 +32,7 @@ impl<'a> Model for Signatures<'a> {
 }
 
 impl<'a> Signatures<'a> {
-    /// The signatures of these members, which are in any order. The time is that of sorting them.
+    /// The signatures of these members, which are in any order. The time is that of sorting them. `Err` is want of memory.
     pub fn new(mut members: Vec<Signature<'a>>) -> Result<Signatures<'a>, OutOfMemory>
         ensures { IfOk result (λ signatures. IsPermutation members.entry.items signatures) }
     {

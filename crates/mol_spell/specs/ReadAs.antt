@@ -94,7 +94,7 @@ pub record ShareMethod (files : Files) (first second : ViewDeclaration ℕ Membe
 abbrev pub method_held : Files → Program → ViewDeclaration ℕ MemberKey → Option Value
 method_held files program declared = value_at program (id_at files (numbered_member declared.key)) slots.Method
 
--- Two declarations that are no constructors have one method exactly where they share one.
+-- But for constructors, two declarations have the same method in their cells exactly where they share a method as above.
 abbrev pub MethodsByName : Files → Program → Type 0
 MethodsByName files program = (first second : ViewDeclaration ℕ MemberKey) → Contains (files_view files).declarations first
     → Contains (files_view files).declarations second → first.kind ≢ constructor → second.kind ≢ constructor

@@ -148,7 +148,8 @@ module _ {C M : Type 0} (reader : Reader C M) where
       let body = block (declaring type name locals) in
       record { locals = at_end_of_block locals body.locals; outcome = with_faults (redeclared_faults at name locals) body.outcome }
 
-  -- The grammar has no statement after `else` but an `if` and a block; any other is as in a block of its own.
+  -- The grammar has no statement after `else` but an `if` and a block (JLS 14.9). Any other becomes the only statement of a
+  -- block, yet its locals stay in scope after it; no tree that is parsed shows this.
   abbrev pub else_of : ReadStatement → IElse
   else_of read = option_map_or (λ branches. elses.If branches) read.branches (elses.Block (block_of (read.statement ∷ []) []))
 

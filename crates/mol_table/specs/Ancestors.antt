@@ -22,9 +22,9 @@ walk (suc steps) program met None = []
 walk (suc steps) program met (Some class) =
     class ∷ walk steps program (class ∷ met) (unmet (class ∷ met) (living_parent program (parent_at program class)))
 
--- A class and then its ancestors, the nearest first. An ancestor is a living class that is reached through living classes
--- alone; the class from which it is reached need not live. Following superclasses stops at a class that was already met, so
--- that no more steps are made than there are identities.
+-- A class, living or not, and then its ancestors from the nearest up: the superclasses that are met on the way while each
+-- lives (JLS 8.1.4). The way ends before a class that is on it already, so that it has no more steps than there are
+-- identities.
 abbrev pub way : Program → Id → List Id
 way program class = walk (suc (len program.known)) program [] (Some class)
 

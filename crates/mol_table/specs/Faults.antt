@@ -91,7 +91,7 @@ is_there program owner a_param id = is_present program owner id
 is_there program owner a_listed_param id = is_present program owner id
 is_there program owner role id = lives program id
 
--- the tidied value of a living entity's cell refers to something that is not there
+-- something lives whose cell, tidied, refers to what is not there
 pub record Missing (program : Program) (at : Cell) (target : Id) : Type 0 where
   pub owner_lives : IsTrue (is_living_entity program at.id)
   pub value : Value

@@ -32,8 +32,8 @@ differ (id ∷ ids) = not (list_any (same_id id) ids) && differ ids
 abbrev pub are_params : List Param → Bool
 are_params params = list_all is_param params && nat_le (length params) max_items && differ (map (λ (param : Param). param.id) params)
 
--- What a value may be in a cell of what is known so. A constructor's name is the empty text, its result is `void`, and its
--- `fixed` is no. Comments at the head and at the tail of braces are a class's.
+-- What a value may be in a cell of what is known so. A constructor has no name of its own, gives no result and is not static
+-- (JLS 8.8), so these cells hold the empty text, `void` and no. Comments at the head and at the tail of braces are a class's.
 abbrev pub is_formed : Known → Value → Bool
 is_formed known (Live live) = true
 is_formed known (Package name) = is_dotted name

@@ -1,5 +1,5 @@
--- What a value mentions: each class, field, method and parameter that its words name, in the order of the words, but for the
--- parameters in the arguments of a call.
+-- What a value mentions: the classes, fields, methods and parameters that are named in it, as often and in the order in which
+-- its words name them. The parameters to which a call gives its arguments do not count.
 use Rattle.std.specs.Prelude.{List, [], ◌∷◌, ◌++◌, Option, None, Some}
 use Rattle.std.specs.List.{flat_map}
 use Rattle.mol_base.specs.declared.ident.Id.{Id}

@@ -77,8 +77,8 @@ impl Table {
         }
     }
 
-    /// The method that a known parameter belongs to. `None` exactly where the identity is no known
-    /// parameter. It takes no memory.
+    /// The method that a known parameter is one of, whether or not the method's list has it at present.
+    /// `None` for each identity that is not known as a parameter. It takes no memory.
     pub fn method_of_param(&self, id: Id) -> Option<Id>
         ensures { result ≡ method_of_param self.now id }
     {
@@ -208,7 +208,7 @@ impl Table {
     /// its filler; and a creation by default constructor is one by the least living constructor of the
     /// class without parameters, where there is one. The time is that of a look-up for each cell, each
     /// identity and each call; in a call, each parameter looks through the arguments, of which there are at
-    /// most 255.
+    /// most 255. `Err` is want of memory.
     pub fn tidy(&self, alloc: Global) -> Result<Table, OutOfMemory>
         ensures ok { IfOk result (λ tidied. tidied ≡ tidy self.now) }
         ensures tidied { IfOk result (λ tidied. tidy tidied ≡ tidied) }
@@ -228,7 +228,7 @@ impl Table {
     /// tidied is so. The time is that of some look-ups for each cell and each identity, and of sorting what
     /// lives. Where superclasses run in a circle, topmost declarations are looked for by a pass over all
     /// identities for each living declaration, and one more for each declaration of its method that is tried,
-    /// which goes up from each living declaration of the method.
+    /// which goes up from each living declaration of the method. `Err` is want of memory.
     pub fn renumber(&self, alloc: Global) -> Result<Table, OutOfMemory>
         requires { MayRenumber self.now }
         ensures { IfOk result (λ renumbered. renumbered ≡ renumber self.now) }

@@ -19,7 +19,7 @@ use std::alloc::Global;
 
 /// A type in the file of this number, from 0: as a program keeps it, and as the rules on names look at it (JLS 4, 6.5.5). Where its name
 /// reads as nothing there is none, and an unknown member is noted at this place, in bytes. The numbers are those of the files of the
-/// scope. The time is that of `type_reading`, and linear in the length of the type's text.
+/// scope. The time is that of `type_reading`, and linear in the length of the type's text. `Err` is want of memory.
 pub fn read_type(
     alloc: Global,
     scope: &Scope<'_>,

@@ -14,6 +14,7 @@ use mol_values::IType;
 use std::alloc::Global;
 
 /// Whether two static types are equal. The time is linear in the lengths of the types.
+/// `Err` is want of memory.
 pub fn same_values(
     alloc: Global,
     first: &StaticType<'_>,

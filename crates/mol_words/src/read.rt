@@ -12,8 +12,8 @@ use mol_values::IType;
 use std::alloc::Global;
 
 /// The type that the words spell, which may stand at a place of this role and has at most 255 dimensions
-/// (JVMS 4.11). `BadWord::Bad` names the first word up to which no such type begins so, or the number of
-/// words where they end early; words after the end of a type are bad.
+/// (JVMS 4.11). `BadWord::Bad` has a place among the words, from 0: that of the first word with which they
+/// are no longer the front of such a type, or how many they are where they are but a front of one.
 pub fn read_type(alloc: Global, role: TypeRole, words: &[Text]) -> Result<IType, BadWord>
     ensures { IsReading (IsType role most_dimensions) words.now result }
 {

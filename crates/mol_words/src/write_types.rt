@@ -10,6 +10,7 @@ use mol_values::IType;
 use std::alloc::Global;
 
 /// The words of a type, as a log has them. They spell the type wherever any words do.
+/// `Err` is want of memory.
 pub fn write_type(alloc: Global, ty: &IType) -> Result<List<Text>, OutOfMemory>
     ensures words { IfOk result (λ words. words ≡ type_words ty.now) }
     ensures form { IfOk result (λ words. (r : Role) (k : ℕ) (ts : Items (Items ℕ)) → IsType r k ty.now ts

@@ -6,7 +6,7 @@ use mol_base::{Boxed, List, OutOfMemory};
 use std::alloc::Global;
 
 impl Expr {
-    /// The expression with each `Paren` replaced by what it holds.
+    /// The expression with each `Paren` replaced by what it holds. `Err` is want of memory.
     #[cycle(bare_expr)]
     pub fn drop_parens(&self, alloc: Global) -> Result<Expr, OutOfMemory>
         ensures { IfOk result (λ bare. bare ≡ expr_without_parens self.now) }

@@ -54,7 +54,7 @@ impl ForStart {
 }
 
 impl Block {
-    /// The block with each `Paren` replaced by what it holds.
+    /// The block with each `Paren` replaced by what it holds. `Err` is want of memory.
     #[cycle(bare_stmt)]
     pub fn drop_parens(&self, alloc: Global) -> Result<Block, OutOfMemory>
         ensures { IfOk result (λ bare. bare ≡ map_block expr_without_parens self.now) }

@@ -12,7 +12,7 @@ use mol_base::{List, OutOfMemory};
 use std::alloc::Global;
 
 impl Unit {
-    /// The unit with each `Paren` replaced by what it holds. All else stays, places too.
+    /// The unit without parentheses: what stands in a `Paren` stands in its place. All else stays, offsets too. `Err` is want of memory.
     pub fn drop_parens(&self, alloc: Global) -> Result<Unit, OutOfMemory>
         ensures value { IfOk result (λ bare. bare ≡ spec.unit_without_parens self.now) }
         // Dropping parentheses again changes nothing.

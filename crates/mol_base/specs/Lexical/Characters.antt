@@ -38,8 +38,8 @@ first_char bytes = let front = take (width (first bytes)) bytes in
 abbrev pub pairs_next : Bool → ℕ → Bool
 pairs_next paired b = not paired && b == 92
 
--- how many bytes stand before the first backslash that an even number of backslashes precede directly
--- and `u` follows: all of them where there is none (JLS 3.3). `odd`: an odd number stand before these.
+-- how many bytes stand before the first Unicode escape (JLS 3.3), all of them where there is none: before a
+-- backslash and `u` to which an even run of backslashes leads up. `odd`: the run before these bytes is odd.
 abbrev pub before_unicode_escape : Bool → List ℕ → ℕ
 before_unicode_escape odd [] = 0
 before_unicode_escape odd (b ∷ bs) = if pairs_next odd b && first bs == 117 then 0 else 1 + before_unicode_escape (pairs_next odd b) bs

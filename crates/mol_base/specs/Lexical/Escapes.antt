@@ -10,8 +10,8 @@ backslashes_before bytes (suc place) = if slice_index bytes place == 92 then 1 +
 abbrev pub IsUnescaped : List ℕ → ℕ → Type 0
 IsUnescaped bytes place = backslashes_before bytes place % 2 ≡ 0
 
--- a Unicode escape begins at the place: a backslash that an even number of backslashes precede directly and
--- `u` follows
+-- a Unicode escape begins at the place (JLS 3.3): a backslash and `u`, where the run of backslashes that ends
+-- before them has an even length, or there is none
 pub record IsEscapeAt (bytes : List ℕ) (place : ℕ) : Type 0 where
   pub backslash : slice_index bytes place ≡ 92
   pub unescaped : IsUnescaped bytes place

@@ -41,8 +41,9 @@ whole n (Wrong flaw at) = None
 unfoldable pub token_kind : List ℕ → Option TokenKind
 token_kind bytes = if is_clean bytes then whole (length bytes) (front bytes) else None
 
--- White space is at the front where the first byte is white space. A token has bytes, all of them there, and ends where a character does: of bytes that are UTF-8 up to a
--- place, those of a token that ends before it are. A flaw stands at a byte that is there.
+-- White space is at the front where the first byte is white space. A token has bytes, all of them there, and ends where a
+-- character does: of bytes that are UTF-8 up to a place, those of a token that ends before it are. A flaw stands at a byte
+-- that is there.
 abbrev pub EndsText : List ℕ → ℕ → Type 0
 EndsText bytes n = (m : ℕ) → n ≤ m → m ≤ length bytes → IsUtf8 (take m bytes) → IsUtf8 (take n bytes)
 

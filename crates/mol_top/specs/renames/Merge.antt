@@ -61,8 +61,8 @@ pairs_in_order base one other = filter_map (twice_at base one other) (keys base.
 
 -- # What both leave
 
--- each cell has the last value of the log that writes it, else that of the base; where both write it, the value of the
--- log with the greater first tag
+-- a cell that neither log writes keeps the base's value, and any other has what a log left in it last: where both write it, the log
+-- with the greater first tag
 abbrev pub united_in_order : Program → Log → Log → Program
 united_in_order base one other = overlaid base (value_by_both one.entries other.entries)
 

@@ -82,6 +82,7 @@ fn rename_body(
 
 impl Value {
     /// The value with the new identity for each that has one in `names`, at every depth; it equals this one elsewhere.
+    /// `Err` is want of memory.
     pub fn renamed(&self, alloc: Global, names: &IndexMap<Id, Id>) -> Result<Value, OutOfMemory>
         ensures { IfOk result (λ renamed. renamed ≡ rename_value (name_in names.now.entries) self.now) }
     {

@@ -12,8 +12,8 @@ pub data IsDigits (radix : Radix) (bytes : List ℕ) : Type 0 where
       → IsTrue (is_digit_of radix first) → IsTrue (is_digit_of radix last)
       → All (λ byte. IsTrue (is_digit_of radix byte) ⊎ (byte ≡ 95)) middle → IsDigits radix bytes
 
--- A number without suffix: `0`; digits of which the first is 1 to 9; `0`, any number of underscores, and
--- octal digits; `0x` or `0X` and hexadecimal digits; `0b` or `0B` and binary digits.
+-- A number without suffix (JLS 3.10.1): `0`; digits of which the first is 1 to 9; `0`, any number of
+-- underscores, and octal digits; hexadecimal digits after `0x` or `0X`; binary digits after `0b` or `0B`.
 pub data IsNumeral (bytes : List ℕ) : Type 0 where
   zero : bytes ≡ codes "0" → IsNumeral bytes
   decimal : (first : ℕ) (others : List ℕ) → bytes ≡ first ∷ others → IsTrue (is_in_range 49 57 first) → IsDigits Decimal bytes → IsNumeral bytes

@@ -20,8 +20,9 @@ const MAX_ENTRIES: usize = 16_384;
 /// with classes `:1` to `:classes`, or none where they are that of no such log.
 ///
 /// The form: the lines that `write_log` writes, of a log with the base's digest and one tag, whose
-/// entries are at most 16,384 with ascending stamps of that tag, each a rename of a class of the base to
-/// an upper-case ASCII letter followed by ASCII letters and digits, at most 255 bytes.
+/// entries are at most 16,384 with ascending stamps of that tag. Each renames a class of the base to a name
+/// of 1 to 255 bytes: ASCII letters and digits, of which the first is an upper-case letter. `Err` is want
+/// of memory.
 pub fn read_log(
     alloc: Global,
     bytes: &[u8],
