@@ -5,7 +5,9 @@ ghost use Rattle.std.specs.Fmt.{decimal};
 use mol_base::OutOfMemory;
 use std::alloc::Global;
 
-/// Appends the number in decimal.
+/// Appends the number in decimal, in ASCII digits without zeros before it.
+///
+/// `Err` is want of memory; what `out` holds then is not said.
 pub fn push_number(alloc: Global, out: &mut Vec<u8>, number: u64) -> Result<(), OutOfMemory>
     ensures { OnOk result (out.new.items ≡ out.old.items ++ decimal number) }
 {

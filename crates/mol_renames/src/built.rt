@@ -43,8 +43,8 @@ impl<T: Drop> From<AllocFailed<T>> for AddressFault {
     }
 }
 
-/// The classes of these files, one for each file in its place. Refuses the first file that is not
-/// the one of a class without members. The time is linear in the bytes.
+/// The classes of the files of a base, one for each file in its place. Refuses the first file that is not
+/// the one of a class without members, with its path, which is relative to the base. The time is linear in the bytes.
 pub fn read_addresses(alloc: Global, files: &[File]) -> Result<Vec<Address>, AddressFault>
     ensures addresses { IfOk result (λ addresses. address_pairs addresses.items ≡ filter_map address_in_pair (file_pairs files.now)) }
     ensures count { IfOk result (λ addresses. length addresses.items ≡ length files.now) }
@@ -62,7 +62,8 @@ pub fn read_addresses(alloc: Global, files: &[File]) -> Result<Vec<Address>, Add
 }
 
 /// The table of the classes of these addresses, numbered from 1 on: each lives and has no superclass,
-/// no words and no comments. The addresses are packages and class names of the form that is built.
+/// no words and no comments. The addresses are packages and class names of the form that is built, at most
+/// 4,096. `Err` is want of memory.
 pub fn base_table(alloc: Global, addresses: Vec<Address>) -> Result<Table, OutOfMemory>
     requires count { length addresses.items ≤ most limits.Files }
     requires names { IsTrue (list_all is_named (address_pairs addresses.items)) }

@@ -15,7 +15,8 @@ use std::alloc::Global;
 use std::collections::BTreeMap;
 
 /// The files of these classes in the order of their paths. Where two classes have one path, the file
-/// of the earlier row is kept. The time is n log n in the number of rows, and linear in their bytes.
+/// of the earlier row is kept. The paths are relative to a base. The time is n log n in the number of rows, and linear
+/// in their bytes. `Err` is want of memory.
 pub fn files_of(alloc: Global, rows: &[Row<'_>]) -> Result<Vec<File>, OutOfMemory>
     ensures { IfOk result (λ files. file_pairs files.items ≡ class_list (classes_in rows.now)) }
 {
@@ -52,7 +53,8 @@ fn file_of(alloc: Global, row: &Row<'_>) -> Result<File, OutOfMemory>
     })
 }
 
-/// SHA-256 (FIPS 180-4) of the files, each as its path, LF, its length in decimal, LF and its bytes.
+/// SHA-256 (FIPS 180-4) of the files in this order, each as its path, LF, its length in decimal, LF and its bytes.
+/// Of the files of a base, in the order of their paths, it is the digest that logs have. `Err` is want of memory.
 pub fn digest_of_files(alloc: Global, files: &[File]) -> Result<[u8; 32], OutOfMemory>
     ensures { IfOk result (λ digest. digest ≡ sha256 (concat (map bundled (file_pairs files.now)))) }
 {

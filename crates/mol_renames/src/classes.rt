@@ -12,7 +12,8 @@ use mol_base::{Id, OutOfMemory, Text};
 use mol_table::{Cell, Slot, Table, Value};
 use std::alloc::Global;
 
-/// The living classes, by identity. The time is that of three look-ups for each known identity.
+/// The living classes of a program, ascending by identity, each with its package and its name. The time is that of
+/// three look-ups for each known identity. `Err` is want of memory.
 pub fn rows_of<'a>(alloc: Global, table: &'a Table) -> Result<Vec<Row<'a>>, OutOfMemory>
     ensures { IfOk result (λ rows. classes_in rows.items ≡ classes_of table.now) }
 {

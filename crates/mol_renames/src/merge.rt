@@ -55,7 +55,8 @@ impl From<OutOfMemory> for MergeFault {
     }
 }
 
-/// Merges two logs over a base.
+/// Merges two logs over the base that they were recorded over: the files of what both leave and the merged log, or all
+/// conflicts.
 ///
 /// Refuses, in this order, logs of one first tag, and a log that leaves two classes of one address, the
 /// first log before the second. The order of the logs decides nothing else. The time is linear in the

@@ -10,7 +10,8 @@ use mol_base::{List, OutOfMemory, Tag};
 use serde_json::{Value, json};
 use std::alloc::Global;
 
-/// The bytes of a log: a line for its digest and tags, and a line for each entry, each ending in LF.
+/// The bytes of a log: a line for its digest and tags, and a line for each entry, each an object in compact JSON
+/// (RFC 8259) and LF. `Err` is want of memory.
 pub fn write_log(alloc: Global, log: &Log) -> Result<List<u8>, OutOfMemory>
     ensures { IfOk result (λ bytes. bytes ≡ log_text log.now) }
 {
