@@ -12,7 +12,7 @@ use Rattle.mol_top.specs.declared.refusal.Line.{Line}
 use Rattle.mol_top.specs.declared.refusal.Line.TheVariants.{Fixed, Made}
 use Rattle.mol_top.specs.declared.status.BaseFault.{BaseFault}
 use Rattle.mol_top.specs.declared.status.BaseFault.TheVariants.{Source}
-use Rattle.mol_top.specs.declared.status.LogCause.TheVariants.{SharedTag, Replay}
+use Rattle.mol_renames.specs.declared.log_cause.LogCause.TheVariants.{SharedTag, Replay}
 use Rattle.mol_top.specs.declared.status.Status.{Status}
 use Rattle.mol_top.specs.declared.status.Status.TheVariants.{Done, Conflicts, Usage, BaseRefused, LogRefused, ReadFailed, Missing, WriteFailed, OutOfMemory, OutInUse, Limit, NotBuilt}
 

@@ -1,7 +1,6 @@
 //! One command, from its words to the bytes that are written.
 #![tactic(auto)]
 
-mod append;
 mod command;
 mod fault;
 mod formatting;
@@ -13,7 +12,9 @@ mod running;
 mod status;
 mod store;
 
-pub use renames::{Conflict, ConflictKind, Entry, Fault, Log, Op, RenameClass};
+pub use mol_renames::{
+    Conflict, ConflictKind, Entry, Fault, Log, LogCause, Op, RenameClass, ReplayFault,
+};
 pub use report::USAGE;
 pub use running::run;
-pub use status::{BaseFault, LogCause, ReplayFault, Status};
+pub use status::{BaseFault, Status};

@@ -4,9 +4,9 @@ ghost use Rattle.std.specs.Fmt.{decimal};
 ghost use Rattle.mol_top.specs.Report.{base_fault_text, fmt_report as fmt_report_of, limit_text, log_line as log_line_of, place_text};
 ghost use Rattle.mol_top.specs.Report.{refusal_line as refusal_line_of, source_fault_text};
 
-use crate::append::push_number;
-use crate::status::{BaseFault, LogCause, Status};
+use crate::status::{BaseFault, Status};
 use mol_base::{OutOfMemory, Place, Tag, Text, Which};
+use mol_renames::{LogCause, push_number};
 use mol_source::SourceFault;
 use std::alloc::Global;
 

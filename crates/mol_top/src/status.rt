@@ -1,28 +1,13 @@
 //! The answers of a run.
-use crate::Fault;
-use mol_base::{OutOfMemory, Place, Tag, Text, Which};
+use mol_base::{OutOfMemory, Place, Text, Which};
+use mol_renames::LogCause;
 use mol_source::SourceFault;
-
-/// Why a log does not replay on its base.
-#[derive(Debug, Drop)]
-pub enum ReplayFault {
-    /// What the log leaves has a fault; this is the first.
-    NotClean(Fault),
-}
 
 /// Why a base is refused.
 #[derive(Debug, Drop)]
 pub enum BaseFault {
     /// The file of this place, relative to the base, is no source: there its first fault is.
     Source(Place, SourceFault),
-}
-
-/// Why a log is refused.
-#[derive(Debug, Drop)]
-pub enum LogCause {
-    /// Both logs have this tag.
-    SharedTag(Tag),
-    Replay(ReplayFault),
 }
 
 /// What a run answers. `code` is the exit status of the program.

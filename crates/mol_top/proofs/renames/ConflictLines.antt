@@ -4,7 +4,7 @@ use Rattle.std.specs.List.{concat}
 use Rattle.std.proofs.lemmas.List.{take_more, map-append}
 use Rattle.std.proofs.lemmas.List.Folds.{concat-append}
 use Rattle.mol_table.specs.Program.{Program}
-use Rattle.mol_top.specs.declared.renames.conflict.Conflict.{Conflict}
+use Rattle.mol_renames.specs.declared.conflict.Conflict.{Conflict}
 use Rattle.mol_top.specs.renames.ConflictReport.{conflict_line}
 
 -- one more conflict, one more line

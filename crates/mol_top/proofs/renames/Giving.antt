@@ -4,18 +4,19 @@ use Rattle.std.specs.Prelude.{None, Some}
 use Rattle.std.specs.List.{filter_map}
 use Rattle.mol_outside.specs.Contents.{Contents}
 use Rattle.mol_top.specs.Files.{FilePair, base_files}
-use Rattle.mol_top.specs.renames.ClassFiles.{address_in}
+use Rattle.mol_renames.specs.BaseProgram.{base_program}
+use Rattle.mol_renames.specs.ClassFiles.{address_in}
 use Rattle.mol_top.specs.Answers.{store_status}
 use Rattle.mol_top.specs.Command.{MergeWords}
 use Rattle.mol_top.specs.Outside.{OnlyReads, Store}
 use Rattle.mol_top.specs.renames.Given.{IsBase, HasInputs, InputStops, log_there, read_log_refusal, input_refusal}
-use Rattle.mol_top.specs.renames.Inputs.{base_of, base_program, log_at}
+use Rattle.mol_top.specs.renames.Inputs.{base_of, log_at}
 use Rattle.mol_top.specs.Refusals.{reading_refusal, out_refusal}
 use Rattle.mol_top.specs.renames.MergeRefusals.{unbuilt_file, base_refusal, log_refusal}
 use Rattle.mol_top.specs.declared.renames.base.Base.{Base}
 use Rattle.mol_top.specs.declared.renames.base.InputFault.{InputFault}
 use Rattle.mol_top.specs.declared.renames.base.InputFault.TheVariants as faults
-use Rattle.mol_top.specs.declared.renames.log.Log.{Log}
+use Rattle.mol_renames.specs.declared.log.Log.{Log}
 use Rattle.mol_top.specs.declared.status.Status.{Status}
 use Rattle.mol_top.specs.declared.status.Status.TheVariants.{NotBuilt}
 use Rattle.mol_top.proofs.Stopping.{Stops-later}

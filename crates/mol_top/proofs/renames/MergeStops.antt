@@ -1,6 +1,6 @@
 -- What stops a merge before the first write, and what it comes to.
 use Rattle.std.proofs.Common.{◌≡◌, ◌⊎◌, inl, inr, Option, Bool, true, false, ◌∙◌, ap, refl}
-use Rattle.std.specs.Prelude.{None, Some}
+use Rattle.std.specs.Prelude.{None, Some, option_map}
 use Rattle.std.specs.Option.{option_or, ForSome}
 use Rattle.mol_outside.specs.Contents.{Contents}
 use Rattle.mol_table.specs.Program.{Program}
@@ -14,18 +14,19 @@ use Rattle.mol_top.specs.Report.{line_bytes, names_addresses, refusal_line}
 use Rattle.mol_top.specs.renames.ConflictReport.{merge_line}
 use Rattle.mol_top.specs.renames.Given.{HasInputs, StopsInputs, input_refusal, input_status}
 use Rattle.mol_top.specs.renames.Inputs.{base_of, log_at}
-use Rattle.mol_top.specs.renames.MergeRefusals.{refusal, base_refusal, log_refusal, logs_refusal, merge_refusal}
-use Rattle.mol_top.specs.renames.Merging.{RefusesLogs}
-use Rattle.mol_top.specs.renames.Working.{IsRefusalOf, merge_status}
+use Rattle.mol_top.specs.renames.MergeRefusals.{refusal, base_refusal, log_refusal, logs_refusal, merge_status}
+use Rattle.mol_renames.specs.LogRefusals.{merge_refusal}
+use Rattle.mol_renames.specs.Merging.{RefusesLogs}
+use Rattle.mol_top.specs.renames.Working.{IsRefusalOf}
 use Rattle.mol_top.specs.declared.fault.StoreFault.TheVariants as stores
 use Rattle.mol_top.specs.declared.refusal.Refusal.{Refusal}
 use Rattle.mol_top.specs.declared.renames.base.InputFault.{InputFault}
 use Rattle.mol_top.specs.declared.renames.base.InputFault.TheVariants as faults
 use Rattle.mol_top.specs.declared.renames.base.Inputs.{Inputs}
-use Rattle.mol_top.specs.declared.renames.merge.MergeFault.{MergeFault}
-use Rattle.mol_top.specs.declared.renames.merge.MergeFault.TheVariants as logs
-use Rattle.mol_top.specs.declared.status.LogCause.TheVariants.{SharedTag, Replay}
-use Rattle.mol_top.specs.declared.status.ReplayFault.TheVariants.{NotClean}
+use Rattle.mol_renames.specs.declared.merge.MergeFault.{MergeFault}
+use Rattle.mol_renames.specs.declared.merge.MergeFault.TheVariants as logs
+use Rattle.mol_renames.specs.declared.log_cause.LogCause.TheVariants.{SharedTag, Replay}
+use Rattle.mol_renames.specs.declared.log_cause.ReplayFault.TheVariants.{NotClean}
 use Rattle.mol_top.specs.declared.status.Status.{Status}
 use Rattle.mol_top.specs.declared.status.Status.TheVariants.{LogRefused, Missing, NotBuilt, OutInUse, OutOfMemory as no_memory}
 use Rattle.mol_top.proofs.Stopping.{either_stops, plain_line}
@@ -78,7 +79,7 @@ stopped_reading w old new fault refusal stops said line = record {
 -- # The logs of accepted inputs
 
 module _ (w : MergeWords) (h : Contents) (inputs : Inputs) (has : HasInputs w h inputs) where
-  merge_refuses : refusal w h ≡ merge_refusal inputs.base inputs.first inputs.second
+  merge_refuses : refusal w h ≡ option_map merge_status (merge_refusal inputs.base inputs.first inputs.second)
   merge_refuses = refusal-parts w h ∙ rw (has.accepted, has.first, has.second, ← has.base) refl
 
 -- # A stop at the logs
@@ -86,7 +87,7 @@ module _ (w : MergeWords) (h : Contents) (inputs : Inputs) (has : HasInputs w h 
 merging_cause : (w : MergeWords) (old new : Store) (inputs : Inputs) (fault : MergeFault) → ForSome old.held (λ h. HasInputs w h inputs)
     → RefusesLogs (merge_refusal inputs.base inputs.first inputs.second) fault → StopsCommand (Command.merge w) old new (merge_status fault)
 merging_cause w old new inputs logs.OutOfMemory has by = tt
-merging_cause w old new inputs (logs.Log k f) has by = λ h e. merge_refuses w h inputs (has h e) ∙ by
+merging_cause w old new inputs (logs.Log k f) has by = λ h e. merge_refuses w h inputs (has h e) ∙ ap (option_map merge_status) by
 
 -- the line of a merge that names no address is the same over any base
 any_base : (base : Program) (s : Status) → names_addresses s ≡ false → merge_line base s ≡ refusal_line s

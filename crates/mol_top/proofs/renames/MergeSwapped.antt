@@ -1,26 +1,28 @@
 -- A merge with its logs in the other order.
 use Rattle.std.proofs.Common.{◌≡◌, ◌∙◌, ap, refl, sym, List, [], ◌∷◌, ◌++◌, length, Bool, true, false, cond, Option, ℕ}
-use Rattle.std.specs.Prelude.{None, Some, nat_eq, is_some, codes}
+use Rattle.std.specs.Prelude.{None, Some, nat_eq, is_some, option_map, codes}
 use Rattle.std.specs.Option.{option_or}
 use Rattle.std.specs.Cmp.Lexicographic.{pointwise, nat_list_eq_equiv}
 use Rattle.mol_outside.specs.Contents.{Contents}
 use Rattle.mol_table.specs.Program.{Program}
-use Rattle.mol_top.specs.renames.ClassFiles.{file_list}
+use Rattle.mol_renames.specs.ClassFiles.{file_list}
 use Rattle.mol_top.specs.Command.{MergeWords, swapped, joined}
 use Rattle.mol_top.specs.Output.{below}
 use Rattle.mol_top.specs.renames.Inputs.{base_of, log_at}
-use Rattle.mol_top.specs.renames.LogText.{log_text}
-use Rattle.mol_top.specs.renames.Merge.{first_tag, conflicts}
+use Rattle.mol_renames.specs.LogRefusals.{merge_refusal, tag_refusal, replay_refusal, first_fault}
+use Rattle.mol_renames.specs.LogText.{log_text}
+use Rattle.mol_renames.specs.Merge.{first_tag, conflicts}
 use Rattle.mol_top.specs.renames.MergeOutcome.{outcome, outcome_by, outcome_of, IsSameSwapped}
 use Rattle.mol_top.specs.Refusals.{absent_input, out_refusal}
-use Rattle.mol_top.specs.renames.MergeRefusals.{refusal, base_refusal, log_refusal, logs_refusal, merge_refusal, tag_refusal, replay_refusal, first_fault}
+use Rattle.mol_top.specs.renames.MergeRefusals.{refusal, base_refusal, log_refusal, logs_refusal, merge_status}
 use Rattle.mol_top.specs.renames.ConflictReport.{merge_report}
-use Rattle.mol_top.specs.renames.Symmetric.{IsSymmetric}
-use Rattle.mol_top.specs.declared.renames.conflict.Conflict.{Conflict}
-use Rattle.mol_top.specs.declared.renames.fault.Fault.{Fault}
-use Rattle.mol_top.specs.declared.renames.log.Log.{Log}
+use Rattle.mol_renames.specs.Symmetric.{IsSymmetric}
+use Rattle.mol_renames.specs.declared.conflict.Conflict.{Conflict}
+use Rattle.mol_renames.specs.declared.fault.Fault.{Fault}
+use Rattle.mol_renames.specs.declared.log.Log.{Log}
+use Rattle.mol_renames.specs.declared.merge.MergeFault.{MergeFault}
 use Rattle.mol_top.specs.declared.status.Status.{Status}
-use Rattle.mol_top.proofs.renames.EitherOrder.{allowed_order, untagged}
+use Rattle.mol_renames.proofs.EitherOrder.{allowed_order, untagged}
 
 left_none : {A : Type 0} (a b : Option A) → option_or a b ≡ None → a ≡ None
 left_none None b e = refl
@@ -61,11 +63,15 @@ outcome-swapped out base one other same = ap (outcome_by out base other one) sam
   }
   by_list (conflict ∷ list) = refl
 
-logs_are : (base : Program) (a b : Option Log) (one other : Log) → a ≡ Some one → b ≡ Some other → logs_refusal base a b ≡ merge_refusal base one other
+logs_are : (base : Program) (a b : Option Log) (one other : Log) → a ≡ Some one → b ≡ Some other → logs_refusal base a b ≡ option_map merge_status (merge_refusal base one other)
 logs_are base a b one other e f = rw (e, f) refl
 
 outcome_of_are : (c : MergeWords) (h : Contents) (one other : Log) → log_at c h c.first ≡ Some one → log_at c h c.second ≡ Some other → outcome_of c h ≡ Some (outcome c.out (base_of c h) one other)
 outcome_of_are c h one other e f = rw (e, f) refl
+
+unmapped : (o : Option MergeFault) → option_map merge_status o ≡ None → o ≡ None
+unmapped None e = refl
+unmapped (Some fault) e = absurd cc
 
 there : {A : Type 0} (o : Option A) (s : Status) → cond (is_some o) None (Some s) ≡ None → (x : A) × (o ≡ Some x)
 there None s e = absurd cc
@@ -85,10 +91,10 @@ same_swapped c h none =
     let second_there = left_none s _ after_first in
     let one = there (log_at c h c.first) _ (right_none (absent_input c.first h) _ first_there) in
     let other = there (log_at c h c.second) _ (right_none (absent_input c.second h) _ second_there) in
-    let merges : merge_refusal (base_of c h) one.0 other.0 ≡ None = sym (logs_are (base_of c h) _ _ one.0 other.0 one.1 other.1) ∙ logs in
+    let merges : merge_refusal (base_of c h) one.0 other.0 ≡ None = unmapped _ (sym (logs_are (base_of c h) _ _ one.0 other.0 one.1 other.1) ∙ logs) in
     record {
       accepted = or_none b _ (left_none b _ none) (or_none s _ second_there (or_none f _ first_there (or_none o _ (left_none o _ after_second)
-          (logs_are (base_of c h) _ _ other.0 one.0 other.1 one.1 ∙ merge_refusal-swapped (base_of c h) one.0 other.0 merges))));
+          (logs_are (base_of c h) _ _ other.0 one.0 other.1 one.1 ∙ ap (option_map merge_status) (merge_refusal-swapped (base_of c h) one.0 other.0 merges)))));
       outcome = outcome_of_are (swapped c) h other.0 one.0 other.1 one.1
           ∙ ap Some (outcome-swapped c.out (base_of c h) one.0 other.0 (allowed_order (base_of c h) one.0 other.0 merges))
           ∙ sym (outcome_of_are c h one.0 other.0 one.1 other.1);

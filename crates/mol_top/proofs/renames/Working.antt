@@ -7,10 +7,10 @@ use Rattle.std.proofs.lemmas.List.Elements.{All-append, All-map}
 use Rattle.mol_base.specs.declared.file.File.{File}
 use Rattle.mol_top.specs.Files.{FilePair, file_pair, file_pairs}
 use Rattle.mol_top.specs.Command.{joined}
-use Rattle.mol_top.specs.renames.LogText.{log_text}
+use Rattle.mol_renames.specs.LogText.{log_text}
 use Rattle.mol_top.specs.Output.{AreNamed, below}
 use Rattle.mol_top.specs.renames.Working.{files_below}
-use Rattle.mol_top.specs.declared.renames.log.Log.{Log}
+use Rattle.mol_renames.specs.declared.log.Log.{Log}
 
 abbrev Named : FilePair → Type 0
 Named file = 0 < length file.0

@@ -11,16 +11,16 @@ use Rattle.mol_values.specs.declared.cell.Cell.{Cell}
 use Rattle.mol_values.specs.declared.cell.Slot.{Slot}
 use Rattle.mol_values.specs.declared.cell.Slot.TheVariants as slots
 use Rattle.mol_top.specs.Report.{log_line, refusal_line}
-use Rattle.mol_top.specs.renames.Cells.{has}
-use Rattle.mol_top.specs.renames.Faults.{class_at}
+use Rattle.mol_renames.specs.Cells.{has}
+use Rattle.mol_renames.specs.Faults.{class_at}
 use Rattle.mol_top.specs.renames.ValueText.{value_data}
-use Rattle.mol_top.specs.declared.renames.conflict.Conflict.{Conflict}
-use Rattle.mol_top.specs.declared.renames.conflict.ConflictKind.{ConflictKind}
-use Rattle.mol_top.specs.declared.renames.conflict.ConflictKind.TheVariants.{Twice, Bad}
-use Rattle.mol_top.specs.declared.renames.fault.Fault.{Fault}
-use Rattle.mol_top.specs.declared.renames.fault.Fault.TheVariants.{SameAddress}
-use Rattle.mol_top.specs.declared.status.LogCause.TheVariants.{Replay}
-use Rattle.mol_top.specs.declared.status.ReplayFault.TheVariants.{NotClean}
+use Rattle.mol_renames.specs.declared.conflict.Conflict.{Conflict}
+use Rattle.mol_renames.specs.declared.conflict.ConflictKind.{ConflictKind}
+use Rattle.mol_renames.specs.declared.conflict.ConflictKind.TheVariants.{Twice, Bad}
+use Rattle.mol_renames.specs.declared.fault.Fault.{Fault}
+use Rattle.mol_renames.specs.declared.fault.Fault.TheVariants.{SameAddress}
+use Rattle.mol_renames.specs.declared.log_cause.LogCause.TheVariants.{Replay}
+use Rattle.mol_renames.specs.declared.log_cause.ReplayFault.TheVariants.{NotClean}
 use Rattle.mol_top.specs.declared.status.Status.{Status}
 use Rattle.mol_top.specs.declared.status.Status.TheVariants.{LogRefused}
 

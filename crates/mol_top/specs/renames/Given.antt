@@ -8,10 +8,11 @@ use Rattle.mol_top.specs.Answers.{store_status}
 use Rattle.mol_top.specs.Files.{FilePair}
 use Rattle.mol_top.specs.Outside.{Store}
 use Rattle.mol_top.specs.Steps.{IsNamed, Only, Stops}
-use Rattle.mol_top.specs.renames.ClassFiles.{address_in, digest_of}
+use Rattle.mol_renames.specs.BaseProgram.{base_program}
+use Rattle.mol_renames.specs.ClassFiles.{address_in, digest_of}
 use Rattle.mol_top.specs.Command.{MergeWords, merge_paths}
-use Rattle.mol_top.specs.renames.Inputs.{base_program, base_of, log_at}
-use Rattle.mol_top.specs.renames.LogRead.{log_of}
+use Rattle.mol_top.specs.renames.Inputs.{base_of, log_at}
+use Rattle.mol_renames.specs.LogRead.{log_of}
 use Rattle.mol_top.specs.Refusals.{absent_input, out_refusal}
 use Rattle.mol_top.specs.renames.MergeRefusals.{base_refusal, log_refusal}
 use Rattle.mol_top.specs.declared.fault.StoreFault.TheVariants as stores
@@ -19,9 +20,9 @@ use Rattle.mol_top.specs.declared.renames.base.Base.{Base}
 use Rattle.mol_top.specs.declared.renames.base.InputFault.{InputFault}
 use Rattle.mol_top.specs.declared.renames.base.InputFault.TheVariants as faults
 use Rattle.mol_top.specs.declared.renames.base.Inputs.{Inputs}
-use Rattle.mol_top.specs.declared.renames.built.AddressFault.{AddressFault}
-use Rattle.mol_top.specs.declared.renames.built.AddressFault.TheVariants as addresses
-use Rattle.mol_top.specs.declared.renames.log.Log.{Log}
+use Rattle.mol_renames.specs.declared.built.AddressFault.{AddressFault}
+use Rattle.mol_renames.specs.declared.built.AddressFault.TheVariants as addresses
+use Rattle.mol_renames.specs.declared.log.Log.{Log}
 use Rattle.mol_top.specs.declared.status.Status.{Status}
 use Rattle.mol_top.specs.declared.status.Status.TheVariants.{NotBuilt}
 

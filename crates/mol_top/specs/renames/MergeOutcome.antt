@@ -3,16 +3,16 @@ use Rattle.std.specs.Prelude.{◌≡◌, ℕ, List, [], ◌∷◌, ◌++◌, cod
 use Rattle.mol_outside.specs.Contents.{Contents}
 use Rattle.mol_table.specs.Program.{Program}
 use Rattle.mol_top.specs.Files.{FilePair}
-use Rattle.mol_top.specs.renames.ClassFiles.{file_list}
+use Rattle.mol_renames.specs.ClassFiles.{file_list}
 use Rattle.mol_top.specs.Command.{MergeWords, swapped, joined}
 use Rattle.mol_top.specs.renames.Inputs.{base_of, log_at}
-use Rattle.mol_top.specs.renames.LogText.{log_text}
-use Rattle.mol_top.specs.renames.Merge.{conflicts, united, merged_log}
+use Rattle.mol_renames.specs.LogText.{log_text}
+use Rattle.mol_renames.specs.Merge.{conflicts, united, merged_log}
 use Rattle.mol_top.specs.Output.{Outcome, below}
 use Rattle.mol_top.specs.renames.MergeRefusals.{refusal}
 use Rattle.mol_top.specs.renames.ConflictReport.{conflicts_report, merge_report}
-use Rattle.mol_top.specs.declared.renames.conflict.Conflict.{Conflict}
-use Rattle.mol_top.specs.declared.renames.log.Log.{Log}
+use Rattle.mol_renames.specs.declared.conflict.Conflict.{Conflict}
+use Rattle.mol_renames.specs.declared.log.Log.{Log}
 
 -- the files of what both logs leave, below OUT, and then the merged log
 abbrev pub merged_files : List ℕ → Program → Log → Log → List FilePair

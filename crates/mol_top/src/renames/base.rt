@@ -9,21 +9,20 @@ ghost use Rattle.mol_top.specs.Files.{file_pairs};
 ghost use Rattle.mol_top.specs.Outside.{OnlyReads, store};
 ghost use Rattle.mol_top.specs.Steps.{Only};
 ghost use Rattle.mol_top.specs.Words.{merge_words};
-ghost use Rattle.mol_top.specs.renames.Addresses.{IsAddressFault};
-ghost use Rattle.mol_top.specs.renames.ClassFiles.{digest_of};
+ghost use Rattle.mol_renames.specs.Addresses.{IsAddressFault};
+ghost use Rattle.mol_renames.specs.ClassFiles.{digest_of};
 ghost use Rattle.mol_top.specs.renames.Given.{HasInputs, IsBase, IsLogThere, StopsInputs, StopsLog, input_status};
 ghost use Rattle.mol_top.specs.renames.MergeRefusals.{unbuilt_file};
 
+use crate::Status;
 use crate::command::MergeWords;
 use crate::fault::StoreFault;
-use crate::renames::built::{AddressFault, base_table, read_addresses};
-use crate::renames::class_files::{digest_of_files, files_of};
-use crate::renames::classes::rows_of;
-use crate::renames::log_text::read_log;
 use crate::store::{check_out, read_base, read_input};
-use crate::{Log, Status};
 use mol_base::{File, OutOfMemory, Text};
 use mol_outside::Files;
+use mol_renames::{
+    AddressFault, Log, base_table, digest_of_files, files_of, read_addresses, read_log, rows_of,
+};
 use mol_table::Table;
 use std::alloc::Global;
 

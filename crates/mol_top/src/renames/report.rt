@@ -6,11 +6,10 @@ mod conflicts;
 mod pieces;
 mod values;
 
-use crate::Fault;
-use crate::append::push_number;
 use crate::report::log_line;
 pub use conflicts::conflicts_report;
 use mol_base::OutOfMemory;
+use mol_renames::{Fault, push_number};
 use mol_table::Table;
 use pieces::push_fault;
 use std::alloc::Global;

@@ -1,5 +1,7 @@
 //! What a merge of two logs writes and prints.
 ghost use Rattle.std.specs.Prelude.{◌≡◌, IfOk, OnOk, IfErr, None};
+ghost use Rattle.mol_renames.specs.LogRefusals.{merge_refusal};
+ghost use Rattle.mol_renames.specs.Merging.{RefusesLogs};
 ghost use Rattle.mol_top.specs.Carried.{CarriesOwn};
 ghost use Rattle.mol_top.specs.Command.{merge_paths};
 ghost use Rattle.mol_top.specs.Files.{file_pairs};
@@ -8,21 +10,20 @@ ghost use Rattle.mol_top.specs.Outside.{OnlyReads, store};
 ghost use Rattle.mol_top.specs.Prepared.{IsStopped, Prepares};
 ghost use Rattle.mol_top.specs.Words.{merge_command, merge_words};
 ghost use Rattle.mol_top.specs.renames.MergeOutcome.{outcome};
-ghost use Rattle.mol_top.specs.renames.MergeRefusals.{merge_refusal};
-ghost use Rattle.mol_top.specs.renames.Merging.{RefusesLogs};
 ghost use Rattle.mol_top.specs.renames.Working.{IsMergedWork, IsConflictingWork, IsRefusalOf};
 
+use crate::Status;
 use crate::command::MergeWords;
 use crate::output::{Work, below, failure_lines};
 use crate::refusal::{Line, Refusal};
 use crate::renames::base::{Inputs, read_inputs};
-use crate::renames::log_text::write_log;
-use crate::renames::merge::{Merge, MergeFault, merge_logs};
 use crate::renames::report::{conflicts_report, merge_report, replay_line};
 use crate::store::join;
-use crate::{Conflict, Fault, Log, LogCause, ReplayFault, Status};
 use mol_base::{File, OutOfMemory, Text};
 use mol_outside::Files;
+use mol_renames::{
+    Conflict, Fault, Log, LogCause, Merge, MergeFault, ReplayFault, merge_logs, write_log,
+};
 use mol_table::Table;
 use std::alloc::Global;
 

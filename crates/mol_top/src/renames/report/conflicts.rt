@@ -5,9 +5,8 @@ ghost use Rattle.mol_top.specs.renames.ConflictReport.{conflicts_report as confl
 
 use super::pieces::{push_cell, push_fault, push_stamps};
 use super::values::push_value;
-use crate::append::push_number;
-use crate::{Conflict, ConflictKind};
 use mol_base::OutOfMemory;
+use mol_renames::{Conflict, ConflictKind, push_number};
 use mol_table::{Cell, Table, Value};
 use std::alloc::Global;
 

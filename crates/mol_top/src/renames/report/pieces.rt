@@ -2,11 +2,11 @@
 ghost use Rattle.std.specs.Prelude.{◌≡◌, ◌++◌, ◌∷◌, OnOk};
 ghost use Rattle.mol_base.specs.Identity.{spelled_stamp};
 ghost use Rattle.mol_table.specs.Program.{value_at};
-ghost use Rattle.mol_top.specs.renames.Faults.{text_in};
+ghost use Rattle.mol_renames.specs.Faults.{text_in};
 ghost use Rattle.mol_top.specs.renames.ConflictReport.{label_of, id_text, cell_text, slot_text, fault_text, stamps_text};
 
-use crate::Fault;
 use mol_base::{Id, OutOfMemory, Stamp};
+use mol_renames::Fault;
 use mol_table::{Cell, Slot, Table, Value};
 use std::alloc::Global;
 
