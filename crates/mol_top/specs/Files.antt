@@ -1,21 +1,10 @@
--- Files as pairs, and those of a base over given contents of a store.
+-- The files of a base over given contents of a store.
 use Rattle.std.specs.Prelude.{ℕ, ◌-◌, Bool, ◌&&◌, List, [], length, drop, map, filter, codes, unwrap_or, nat_eq, nat_le}
 use Rattle.std.specs.Cmp.Lexicographic.{pointwise}
 use Rattle.std.specs.FinMap.{get}
-use Rattle.mol_base.specs.declared.file.File.{File}
 use Rattle.mol_outside.specs.Contents.{Contents, paths_below}
+use Rattle.mol_program.specs.Files.{FilePair}
 use Rattle.mol_top.specs.Command.{joined}
-
--- a file as its path and its bytes
-abbrev pub FilePair : Type 0
-FilePair = List ℕ × List ℕ
-
--- a file of the code as such a pair
-abbrev pub file_pair : File → FilePair
-file_pair file = (file.path, file.bytes)
-
-abbrev pub file_pairs : List File → List FilePair
-file_pairs files = map file_pair files
 
 -- the path ends in `.java`
 abbrev pub is_java : List ℕ → Bool

@@ -2,6 +2,7 @@
 #![tactic(auto)]
 
 mod append;
+mod checking;
 mod command;
 mod fault;
 mod formatting;

@@ -1,7 +1,7 @@
 //! The answers of a run.
 use crate::Fault;
 use mol_base::{OutOfMemory, Place, Tag, Text, Which};
-use mol_source::SourceFault;
+use mol_program::ProgramFault;
 
 /// Why a log does not replay on its base.
 #[derive(Debug, Drop)]
@@ -13,8 +13,8 @@ pub enum ReplayFault {
 /// Why a base is refused.
 #[derive(Debug, Drop)]
 pub enum BaseFault {
-    /// The file of this place, relative to the base, is no source: there its first fault is.
-    Source(Place, SourceFault),
+    /// The files are no program: the first fault, and where it is, with the path of its file relative to the base.
+    Source(Place, ProgramFault),
 }
 
 /// Why a log is refused.

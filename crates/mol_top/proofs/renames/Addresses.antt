@@ -8,10 +8,10 @@ use Rattle.std.proofs.lemmas.Str.{IsUtf8-from_ascii}
 use Rattle.std.proofs.lemmas.Str.Ascii.{IsAscii-cons, IsAscii-nil}
 use Rattle.std.proofs.lemmas.Slice.Eq.{bytes_eq-Decides}
 use Rattle.std.proofs.Common.{⊎_elim}
+use Rattle.mol_program.specs.Files.{FilePair}
 use Rattle.mol_top.specs.renames.Names.{is_lower, is_upper, is_digit, is_segment, is_package, is_class_name}
 use Rattle.mol_base.specs.Limits.{max_name_bytes}
 use Rattle.mol_base.specs.Paths.{path_of}
-use Rattle.mol_top.specs.Files.{FilePair}
 use Rattle.mol_top.specs.renames.ClassFiles.{Address, IsClassFile, address_in, cut_address, text_of}
 use Rattle.mol_top.proofs.renames.Cuts.{before_there, after_there}
 

@@ -4,8 +4,8 @@ use Rattle.std.specs.List.{filter_map, cons_option, list_all}
 use Rattle.std.proofs.lemmas.Bool.{and_from}
 use Rattle.std.specs.Cmp.Lexicographic.{pointwise}
 use Rattle.mol_base.specs.Paths.{path_of}
+use Rattle.mol_program.specs.Files.{FilePair}
 use Rattle.mol_top.specs.renames.Addresses.{is_named}
-use Rattle.mol_top.specs.Files.{FilePair}
 use Rattle.mol_top.specs.renames.ClassFiles.{Address, address_in, cut_address, text_of}
 use Rattle.mol_top.specs.renames.Names.{is_class_name, is_package}
 

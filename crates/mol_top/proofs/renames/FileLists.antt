@@ -16,7 +16,7 @@ use Rattle.std.proofs.lemmas.Str.Ascii.{IsAscii-cons, IsAscii-nil}
 use Rattle.std.proofs.Math.Seq.{drop-cons, drop-length, take-append_seam, get_or-append_seam, drop-append-add}
 use Rattle.mol_outside.specs.Contents.{Contents}
 use Rattle.mol_base.specs.Paths.{path_of, slash_for_dot}
-use Rattle.mol_top.specs.Files.{FilePair, file_pair, file_pairs}
+use Rattle.mol_program.specs.Files.{file_pair, file_pairs, FilePair}
 use Rattle.mol_top.specs.renames.ClassFiles.{file_of, bundled}
 use Rattle.mol_top.specs.renames.Rows.{class_in, classes_in}
 use Rattle.mol_base.specs.declared.file.File.{File}

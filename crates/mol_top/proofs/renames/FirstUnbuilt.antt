@@ -5,8 +5,8 @@ use Rattle.std.proofs.lemmas.List.{take_more, map-append}
 use Rattle.std.proofs.Math.Seq.{drop-cons}
 use Rattle.std.proofs.Math.ListN.{take-append-drop}
 use Rattle.mol_base.specs.declared.file.File.{File}
+use Rattle.mol_program.specs.Files.{file_pair, file_pairs, FilePair}
 use Rattle.mol_top.specs.renames.Addresses.{address_pair, address_pairs, is_unbuilt}
-use Rattle.mol_top.specs.Files.{FilePair, file_pair, file_pairs}
 use Rattle.mol_top.specs.renames.ClassFiles.{address_in}
 use Rattle.mol_top.specs.renames.MergeRefusals.{unbuilt_file}
 use Rattle.mol_top.specs.declared.status.Status.TheVariants.{NotBuilt}

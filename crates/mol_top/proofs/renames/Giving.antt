@@ -3,7 +3,8 @@ use Rattle.std.proofs.Common.{◌≡◌, ℕ, List, Option, ◌∙◌, sym, ap, 
 use Rattle.std.specs.Prelude.{None, Some}
 use Rattle.std.specs.List.{filter_map}
 use Rattle.mol_outside.specs.Contents.{Contents}
-use Rattle.mol_top.specs.Files.{FilePair, base_files}
+use Rattle.mol_program.specs.Files.{FilePair}
+use Rattle.mol_top.specs.Files.{base_files}
 use Rattle.mol_top.specs.renames.ClassFiles.{address_in}
 use Rattle.mol_top.specs.Answers.{store_status}
 use Rattle.mol_top.specs.Command.{MergeWords}

@@ -1,6 +1,6 @@
 -- Addresses of classes, as the program holds them.
 use Rattle.std.specs.Prelude.{◌≡◌, ◌&&◌, ⊤, Bool, List, map, Some, is_none}
-use Rattle.mol_top.specs.Files.{FilePair}
+use Rattle.mol_program.specs.Files.{FilePair}
 use Rattle.mol_top.specs.renames.ClassFiles.{Address as AddressPair, address_in}
 use Rattle.mol_top.specs.renames.Names.{is_class_name, is_package}
 use Rattle.mol_top.specs.declared.renames.built.AddressFault.{AddressFault}

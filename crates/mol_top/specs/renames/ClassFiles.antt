@@ -7,8 +7,8 @@ use Rattle.std.specs.Fmt.{decimal}
 use Rattle.sha2.specs.Sha256.{sha256}
 use Rattle.mol_base.specs.Paths.{path_of}
 use Rattle.mol_outside.specs.Contents.{Contents}
+use Rattle.mol_program.specs.Files.{FilePair}
 use Rattle.mol_table.specs.Program.{Program}
-use Rattle.mol_top.specs.Files.{FilePair}
 use Rattle.mol_top.specs.renames.Names.{is_class_name, is_package}
 use Rattle.mol_top.specs.renames.Faults.{Class, classes_of}
 

@@ -3,9 +3,10 @@ use Rattle.std.specs.Prelude.{ℕ, List, [], ◌∷◌, Option, None, Some, opti
 use Rattle.std.specs.Option.{option_or}
 use Rattle.std.specs.Cmp.Lexicographic.{pointwise}
 use Rattle.mol_outside.specs.Contents.{Contents}
+use Rattle.mol_program.specs.Files.{FilePair}
 use Rattle.mol_table.specs.Program.{Program}
 use Rattle.mol_top.specs.Command.{MergeWords}
-use Rattle.mol_top.specs.Files.{FilePair, base_files}
+use Rattle.mol_top.specs.Files.{base_files}
 use Rattle.mol_top.specs.Refusals.{reading_refusal, absent_input, out_refusal}
 use Rattle.mol_top.specs.renames.ClassFiles.{address_in}
 use Rattle.mol_top.specs.renames.Faults.{faults}

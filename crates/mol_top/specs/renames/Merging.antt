@@ -1,11 +1,11 @@
 -- What a merge of two logs answers.
 use Rattle.std.specs.Prelude.{◌≡◌, ◌≢◌, ⊤, ℕ, List, [], Option, None, Some, slice_get}
+use Rattle.mol_program.specs.Files.{file_pairs}
 use Rattle.mol_table.specs.Program.{Program}
 use Rattle.mol_table.specs.Rules.{IsProgram}
 use Rattle.mol_top.specs.renames.ClassFiles.{class_list, file_list}
 use Rattle.mol_top.specs.renames.Faults.{Class, classes_of, faults}
 use Rattle.mol_top.specs.renames.Merge.{conflicts, conflicts_in_order, united, united_in_order, merged_log}
-use Rattle.mol_top.specs.Files.{file_pairs}
 use Rattle.mol_top.specs.renames.MergeRefusals.{replay_refusal}
 use Rattle.mol_top.specs.renames.Rows.{classes_in}
 use Rattle.mol_top.specs.renames.Writes.{after}

@@ -3,10 +3,10 @@ ghost use Rattle.std.specs.Prelude.{◌≡◌, ◌≤◌, length, None, find, If
 ghost use Rattle.std.specs.List.{filter_map, list_all};
 ghost use Rattle.mol_base.specs.Limits.{most};
 ghost use Rattle.mol_base.specs.declared.limit.Which.TheVariants as limits;
+ghost use Rattle.mol_program.specs.Files.{file_pairs};
 ghost use Rattle.mol_top.specs.renames.Inputs.{base_program, class_entity as class_entity_of, class_entities as class_entities_of};
 ghost use Rattle.mol_top.specs.renames.Addresses.{address_pair, address_pairs, is_named, is_unbuilt, IsAddressFault};
 ghost use Rattle.mol_top.specs.renames.ClassFiles.{address_in as address_in_pair};
-ghost use Rattle.mol_top.specs.Files.{file_pairs};
 
 use crate::renames::class_file::{Address, address_in};
 use mol_base::{File, Id, List, OutOfMemory, Tag, Text};

@@ -1,10 +1,10 @@
 //! Files of classes without members.
 ghost use Rattle.std.specs.Prelude.{◌≡◌, ◌==◌, ◌<◌, drop, length, option_map, IfOk, IfSome, IsUtf8};
 ghost use Rattle.std.specs.List.{before_first, after_first, position};
+ghost use Rattle.mol_program.specs.Files.{file_pair};
 ghost use Rattle.mol_top.specs.renames.ClassFiles as spec;
 ghost use Rattle.mol_top.specs.renames.ClassFiles.{IsClassFile, IsOnlyClass, text_of};
 ghost use Rattle.mol_top.specs.renames.Addresses.{address_pair};
-ghost use Rattle.mol_top.specs.Files.{file_pair};
 
 use crate::renames::names::{is_class_name, is_package};
 use mol_base::{File, OutOfMemory, Text, path_of};

@@ -1,8 +1,8 @@
 use Rattle.std.proofs.Common.{◌≡◌, take, None, length}
 use Rattle.std.specs.List.{find, filter_map}
+use Rattle.mol_program.specs.Files.{file_pairs}
 use Rattle.mol_top.specs.renames.Addresses.{address_pairs, is_unbuilt}
 use Rattle.mol_top.specs.renames.ClassFiles.{address_in}
-use Rattle.mol_top.specs.Files.{file_pairs}
 use Rattle.mol_top.proofs.renames.built.read_addresses.Given as goal
 
 abbrev pub invariant-loop-file : goal.invariant-loop-file

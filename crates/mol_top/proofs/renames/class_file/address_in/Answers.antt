@@ -1,6 +1,6 @@
 use Rattle.std.proofs.Common.{rules, ◌≡◌, ◌∙◌, Option, Some, None}
+use Rattle.mol_program.specs.Files.{file_pair}
 use Rattle.mol_top.specs.renames.ClassFiles as spec
-use Rattle.mol_top.specs.Files.{file_pair}
 use Rattle.mol_top.proofs.renames.Addresses.{package_text, name_text, only_class}
 use Rattle.mol_top.proofs.renames.class_file.address_in.Goals as goal
 

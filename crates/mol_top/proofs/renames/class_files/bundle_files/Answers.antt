@@ -1,7 +1,7 @@
 use Rattle.std.proofs.Common.{◌++◌, ◌∙◌, sym, ap, map, take, rules}
 use Rattle.std.specs.List.{concat}
+use Rattle.mol_program.specs.Files.{file_pair, file_pairs}
 use Rattle.mol_top.specs.renames.ClassFiles.{bundled}
-use Rattle.mol_top.specs.Files.{file_pair, file_pairs}
 use Rattle.mol_top.proofs.renames.FileLists.{bundled_more}
 use Rattle.mol_base.specs.declared.file.File.{File}
 use Rattle.mol_top.proofs.renames.class_files.bundle_files.Goals as goal

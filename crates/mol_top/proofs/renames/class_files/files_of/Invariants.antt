@@ -1,5 +1,5 @@
 use Rattle.std.proofs.Common.{◌≡◌}
-use Rattle.mol_top.specs.Files.{file_pairs}
+use Rattle.mol_program.specs.Files.{file_pairs}
 use Rattle.mol_top.proofs.renames.class_files.files_of.Given as goal
 
 abbrev pub invariant-loop-path : goal.invariant-loop-path
