@@ -1,5 +1,5 @@
 #!/bin/sh
-# Formats a thousand generated sources, and those of the machine's own Java sources that are of the subset, with
+# Formats a thousand generated sources, and those of the machine's own Java sources that are a program of the subset, with
 # `molref fmt`, and the same files with clang-format and google-java-format where the machine has them, in one run: the
 # least time of several runs of the whole process, the ratio to each, and the peak memory beside the size of the sources.
 # What was formatted is formatted again, and has to stay. Without such sources, or without a peer, their part is left out.
@@ -13,7 +13,7 @@ trap 'rm -rf "$work"' EXIT
 PYTHONDONTWRITEBYTECODE=1 PYTHONPATH=$here python3 - "$program" "$work" <<'PY'
 import filecmp, os, shutil, subprocess, sys, time
 
-import java_sources
+import programs
 
 PROGRAM, WORK = sys.argv[1:]
 RUNS, FILES, MOST, TOGETHER = 3, 4096, 1 << 20, 16 << 20
@@ -46,30 +46,15 @@ def timed(words, before=lambda: None):
     return best, peak
 
 
-def is_source(source):
-    """Whether `fmt` takes a source."""
-    folder = f"{WORK}/one"
-    shutil.rmtree(folder, ignore_errors=True)
-    os.makedirs(f"{folder}/in")
-    with open(f"{folder}/in/Source.java", "wb") as out:
-        out.write(source)
-    return subprocess.run([PROGRAM, "fmt", f"{folder}/in", f"{folder}/out"], stdout=subprocess.DEVNULL).returncode == 0
-
-
 def compare(what, sources):
     base, out = f"{WORK}/{what}", f"{WORK}/{what}.out"
-    names = []
-    for k, source in enumerate(sources):
-        names.append(f"{base}/{k // 100}/Source{k}.java")
-        os.makedirs(os.path.dirname(names[-1]), exist_ok=True)
-        with open(names[-1], "wb") as file:
-            file.write(source)
+    programs.write(base, sources)
+    names = [f"{base}/{path}" for path in sources]
     ours, peak = timed([PROGRAM, "fmt", base, out], lambda: shutil.rmtree(out, ignore_errors=True))
-    size, largest = sum(map(len, sources)), max(map(len, sources))
-    print(f"{what}: {len(sources)} files, {size} bytes, the largest {largest}")
+    size = sum(map(len, sources.values()))
+    print(f"{what}: {len(sources)} files, {size} bytes")
     print(f"  molref fmt, whole process, best of {RUNS}: {ours * 1000:.0f} ms, {size / ours / 1e6:.1f} MB/s; "
-          f"peak memory {peak / 1e6:.1f} MB, {peak / size:.1f} times the sources, "
-          f"or these and {(peak - size) / largest:.0f} times the largest file", flush=True)
+          f"peak memory {peak / 1e6:.1f} MB, {peak / size:.1f} times the sources", flush=True)
     again = f"{WORK}/{what}.again"
     subprocess.run([PROGRAM, "fmt", out, again], stdout=subprocess.DEVNULL, check=True)
     for name in names:
@@ -97,12 +82,8 @@ def compare(what, sources):
 
 
 print(f"cores {os.cpu_count()}, load {os.getloadavg()[0]:.1f}")
-compare("generated", [java_sources.generated(f"Source{k}", 8000) for k in range(1000)])
-real, size = [], 0
-for source in java_sources.of_machine(MOST):
-    if len(real) < FILES and size + len(source) <= TOGETHER and java_sources.may_be_of_subset(source) and is_source(source):
-        real.append(source)
-        size += len(source)
+compare("generated", programs.generated(1000))
+real = programs.of_machine(PROGRAM, WORK, FILES, MOST, TOGETHER)
 if real:
     compare("real", real)
 else:

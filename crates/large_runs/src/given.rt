@@ -43,33 +43,43 @@ impl Inputs {
         })
     }
 
-    /// A base of so many files of one text, and no logs. The words are those of a merge or of `fmt`.
-    fn of_texts(
-        alloc: Global,
-        words: &'static str,
-        count: u32,
-        text: &str,
-    ) -> Result<Inputs, OutOfMemory> {
+    /// A merge over so many empty files, and no logs.
+    pub fn of_files(alloc: Global, count: u32) -> Result<Inputs, OutOfMemory> {
         let mut files = List::new(alloc);
         for number in 0..count {
-            let path = format!(in alloc; "B/k/C{number}.java")?;
-            files.add(file(alloc, path.as_str(), text)?)?;
+            files.add(source(alloc, number, "")?)?;
         }
         Ok(Inputs {
-            words,
+            words: MERGE,
             files,
             writes: 0,
         })
     }
 
-    /// A merge over so many empty files.
-    pub fn of_files(alloc: Global, count: u32) -> Result<Inputs, OutOfMemory> {
-        Inputs::of_texts(alloc, MERGE, count, "")
-    }
-
     /// So many sources of one class each.
     pub fn of_sources(alloc: Global, count: u32) -> Result<Inputs, OutOfMemory> {
-        Inputs::of_texts(alloc, FMT, count, "package k; class C {}")
+        let mut files = List::new(alloc);
+        for number in 0..count {
+            let text = padded(alloc, number, 0)?;
+            files.add(source(alloc, number, text.as_str())?)?;
+        }
+        Ok(Inputs::of_program(files))
+    }
+
+    /// `fmt` over these files.
+    fn of_program(files: List<File>) -> Inputs {
+        Inputs {
+            words: FMT,
+            files,
+            writes: 0,
+        }
+    }
+
+    /// `fmt` over one source.
+    fn of_text(alloc: Global, text: &str) -> Result<Inputs, OutOfMemory> {
+        let mut files = List::new(alloc);
+        files.add(source(alloc, 0, text)?)?;
+        Ok(Inputs::of_program(files))
     }
 
     /// The most sources that there may be, after so many writes.
@@ -83,54 +93,62 @@ impl Inputs {
 
     /// One source of this many bytes.
     pub fn of_bytes(alloc: Global, count: u32) -> Result<Inputs, OutOfMemory> {
-        let text = padded(alloc, count)?;
-        Inputs::of_texts(alloc, FMT, 1, text.as_str())
+        let text = padded(alloc, 0, count)?;
+        Inputs::of_text(alloc, text.as_str())
     }
 
     /// Sources of so many bytes together: fifteen of a mebibyte, one of a million, and one with the rest.
     pub fn of_bytes_together(alloc: Global, count: u32) -> Result<Inputs, OutOfMemory> {
-        let text = padded(alloc, 1_048_576)?;
-        let mut sources = Inputs::of_texts(alloc, FMT, 15, text.as_str())?;
-        let text = padded(alloc, 1_000_000)?;
-        sources
-            .files
-            .add(file(alloc, "B/k/D.java", text.as_str())?)?;
-        let text = padded(alloc, count.saturating_sub(16_728_640))?;
-        sources
-            .files
-            .add(file(alloc, "B/k/E.java", text.as_str())?)?;
-        Ok(sources)
+        let mut files = List::new(alloc);
+        for number in 0..15 {
+            let text = padded(alloc, number, 1_048_576)?;
+            files.add(source(alloc, number, text.as_str())?)?;
+        }
+        let text = padded(alloc, 15, 1_000_000)?;
+        files.add(source(alloc, 15, text.as_str())?)?;
+        let text = padded(alloc, 16, count.saturating_sub(16_728_640))?;
+        files.add(source(alloc, 16, text.as_str())?)?;
+        Ok(Inputs::of_program(files))
     }
 
-    /// So many sources, each with 80,000 fields, whose texts in the one layout are twice as long.
+    /// So many sources, each with 55,000 fields, whose texts in the one layout are half as long again.
     pub fn of_long_texts(alloc: Global, count: u32) -> Result<Inputs, OutOfMemory> {
-        let text = repeated(alloc, "package k;class C{", "int a;", 80_000, "}")?;
-        Inputs::of_texts(alloc, FMT, count, text.as_str())
+        let mut files = List::new(alloc);
+        for number in 0..count {
+            let text = with_fields(alloc, number, 55_000)?;
+            files.add(source(alloc, number, text.as_str())?)?;
+        }
+        Ok(Inputs::of_program(files))
     }
 
     /// One source with so many fields.
     pub fn of_fields(alloc: Global, count: u32) -> Result<Inputs, OutOfMemory> {
-        let text = repeated(alloc, "package k;class C{", "int a;", count, "}")?;
-        Inputs::of_texts(alloc, FMT, 1, text.as_str())
+        let text = with_fields(alloc, 0, count)?;
+        Inputs::of_text(alloc, text.as_str())
     }
 
     /// A class with a name of so many letters.
     pub fn of_name(alloc: Global, count: u32) -> Result<Inputs, OutOfMemory> {
-        let text = repeated(alloc, "package k;class ", "C", count, "{}")?;
-        Inputs::of_texts(alloc, FMT, 1, text.as_str())
+        let name = repeated(alloc, "", "C", count, "")?;
+        let path = format!(in alloc; "B/k/{name}.java")?;
+        let text = format!(in alloc; "package k;class {name}{{}}")?;
+        let mut files = List::new(alloc);
+        files.add(file(alloc, path.as_str(), text.as_str())?)?;
+        Ok(Inputs::of_program(files))
     }
 
     /// A field whose value stands in so many pairs of parentheses.
     pub fn of_pairs(alloc: Global, count: u32) -> Result<Inputs, OutOfMemory> {
-        let open = repeated(alloc, "package k;class C{int a=", "(", count, "1")?;
+        let open = repeated(alloc, "package k;class C0{int a=", "(", count, "1")?;
         let text = repeated(alloc, open.as_str(), ")", count, ";}")?;
-        Inputs::of_texts(alloc, FMT, 1, text.as_str())
+        Inputs::of_text(alloc, text.as_str())
     }
 
-    /// A call with so many arguments, and one more.
+    /// A call with so many arguments, and one more. The class is outside that the method stands in.
     pub fn of_arguments(alloc: Global, count: u32) -> Result<Inputs, OutOfMemory> {
-        let text = repeated(alloc, "package k;class C{int a=f(", "1,", count, "1);}")?;
-        Inputs::of_texts(alloc, FMT, 1, text.as_str())
+        let front = "package k;class C0 extends D{int a=f(";
+        let text = repeated(alloc, front, "1,", count, "1);}")?;
+        Inputs::of_text(alloc, text.as_str())
     }
 
     /// A source with this byte in a comment.
@@ -166,15 +184,31 @@ fn repeated(
     Ok(text)
 }
 
-/// A source of one class and of so many bytes, if that is enough for it.
-fn padded(alloc: Global, count: u32) -> Result<String, OutOfMemory> {
-    repeated(
-        alloc,
-        "package k;class C{}",
-        " ",
-        count.saturating_sub(19),
-        "",
-    )
+/// A source of the class of this number and of so many bytes, or of as many as that takes.
+fn padded(alloc: Global, number: u32, count: u32) -> Result<String, OutOfMemory> {
+    let mut text = format!(in alloc; "package k;class C{number}{{}}")?;
+    for _place in text.len()..count as usize {
+        text.push(' ')?;
+    }
+    Ok(text)
+}
+
+/// A source of the class of this number with so many fields.
+fn with_fields(alloc: Global, number: u32, count: u32) -> Result<String, OutOfMemory> {
+    let mut text = format!(in alloc; "package k;class C{number}{{")?;
+    for field in 0..count {
+        let field = 100_000 + u64::from(field);
+        let field = format!(in alloc; "int a{field};")?;
+        text.push_str(field.as_str())?;
+    }
+    text.push('}')?;
+    Ok(text)
+}
+
+/// The source of the class of this number.
+fn source(alloc: Global, number: u32, text: &str) -> Result<File, OutOfMemory> {
+    let path = format!(in alloc; "B/k/C{number}.java")?;
+    file(alloc, path.as_str(), text)
 }
 
 /// The file of this path and text.

@@ -3,7 +3,6 @@ pub mod BaseProgram
 pub mod Cells
 pub mod ClassFiles
 pub mod Faults
-pub mod FilePairs
 pub mod LastWrites
 pub mod LogRead
 pub mod LogRefusals

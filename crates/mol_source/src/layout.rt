@@ -1,8 +1,10 @@
 //! The text of a tree in the one layout, with the height of the tree as printed.
-ghost use Rattle.std.specs.Prelude.{◌≡◌, IfOk};
+ghost use Rattle.std.specs.Prelude.{List as Bytes, ◌≡◌, ◌≤◌, ℕ, IfOk};
+ghost use Rattle.jav_rules.specs.BadToken.{most_height};
 ghost use Rattle.jav_tree.specs.Layout.{unit_text};
 ghost use Rattle.jav_tree.specs.Parens.{unit_without_parens};
 ghost use Rattle.jav_tree.specs.WithParens.{unit_printed_height};
+ghost use Rattle.mol_source.specs.Sources.{IsSettled, IsUnitOf, ReadsBack};
 
 use jav_height::printed_height;
 use jav_print::print;
@@ -20,10 +22,19 @@ pub struct Formatted {
     pub height: u32,
 }
 
-/// A tree in the one layout.
+/// A tree in the one layout, and how high it is as printed. What is formatted is the same program, and formatting it again changes
+/// nothing.
+///
+/// The time is linear in the tree and in the text.
 pub fn formatted_unit(alloc: Global, unit: Unit) -> Result<Formatted, OutOfMemory>
     ensures text { IfOk result (λ formatted. formatted.text ≡ unit_text (unit_without_parens unit)) }
     ensures height { IfOk result (λ formatted. formatted.height ≡ unit_printed_height unit) }
+    // Unless it is too high as printed, the text of the tree of a source reads back as that tree as printed ..
+    ensures back { IfOk result (λ formatted. (bytes : Bytes ℕ) → IsUnitOf bytes unit → formatted.height ≤ most_height
+        → ReadsBack bytes formatted.text) }
+    // .. and is itself in the one layout already.
+    ensures settled { IfOk result (λ formatted. (bytes : Bytes ℕ) → IsUnitOf bytes unit → formatted.height ≤ most_height
+        → IsSettled formatted.text formatted.height) }
 {
     let height = printed_height(&unit);
     let unit = unit.drop_parens(alloc)?;

@@ -6,5 +6,5 @@ mod layout;
 mod source;
 
 pub use fault::{SourceFault, UnitFault};
-pub use layout::Formatted;
-pub use source::{formatted, line_and_column_of, unit_of};
+pub use layout::{Formatted, formatted_unit};
+pub use source::{line_and_column_of, unit_of};

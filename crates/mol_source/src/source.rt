@@ -1,4 +1,4 @@
-//! The tree of a source, and a source in the one layout.
+//! The tree of a source, and the places of its faults.
 ghost use Rattle.std.specs.Prelude.{◌≡◌, ◌<◌, ◌≤◌, ◌^◌, ◌⊎◌, ◌+◌, length, IfOk, IfErr, Ok, Err};
 ghost use Rattle.mol_base.specs.Source.{IsSource};
 ghost use Rattle.jav_lex.specs.Token.{all_seen};
@@ -7,10 +7,9 @@ ghost use Rattle.jav_tree.specs.declared.unit.Unit.{Unit as Tree};
 ghost use Rattle.jav_rules.specs.BadToken.{most_items, most_height};
 ghost use Rattle.mol_base.specs.Lines.{line, column};
 ghost use Rattle.mol_source.specs.FaultTexts.{place};
-ghost use Rattle.mol_source.specs.Sources.{IsUnitOf, IsFormatted, ReadsBack, IsSettled, IsFaultOf, FaultsAs, RefusesTokens, RefusesTree};
+ghost use Rattle.mol_source.specs.Sources.{IsUnitOf, IsFaultOf, FaultsAs, RefusesTokens, RefusesTree};
 
 use crate::fault::{SourceFault, UnitFault};
-use crate::layout::{Formatted, formatted_unit};
 use jav_lex::{Token, lex};
 use jav_parse::parse;
 use jav_tree::Unit;
@@ -55,26 +54,6 @@ fn tree_of(alloc: Global, tokens: &[Token]) -> Result<Unit, UnitFault>
     match parse(alloc, tokens) {
         Ok(unit) => Ok(unit),
         Err(fault) => Err(UnitFault::of_syntax(fault)),
-    }
-}
-
-/// A source file in the one layout, and how high its tree is as printed. What is formatted is the same program, and formatting
-/// it again changes nothing.
-///
-/// Faults are those of `unit_of`. The time is linear in the bytes and in the text, but for sorting the imports.
-pub fn formatted(alloc: Global, bytes: &[u8]) -> Result<Formatted, UnitFault>
-    requires { length bytes.now < 2 ^ 32 }
-    ensures formatted { IfOk result (λ formatted. IsFormatted bytes.now formatted.text formatted.height) }
-    // Unless it is too high as printed, the text reads back as the tree of the source as printed ..
-    ensures back { IfOk result (λ formatted. formatted.height ≤ most_height → ReadsBack bytes.now formatted.text) }
-    // .. and is itself in the one layout already.
-    ensures settled { IfOk result (λ formatted. formatted.height ≤ most_height → IsSettled formatted.text formatted.height) }
-    ensures fault { IfErr result (FaultsAs bytes.now) }
-{
-    let unit = unit_of(alloc, bytes)?;
-    match formatted_unit(alloc, unit) {
-        Ok(formatted) => Ok(formatted),
-        Err(OutOfMemory) => Err(UnitFault::OutOfMemory),
     }
 }
 

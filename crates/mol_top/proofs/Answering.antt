@@ -2,8 +2,8 @@
 use Rattle.std.proofs.Common.{◌≡◌, ℕ, Option, sym, ◌∙◌, ap, refl, subst, inl, inr, List, take, Bool, true, false}
 use Rattle.std.specs.Prelude.{None, Some}
 use Rattle.mol_outside.specs.Contents.{Contents, appended, elsewhere}
+use Rattle.mol_files.specs.Files.{file_pairs}
 use Rattle.mol_top.specs.Command.{Command, paths_of}
-use Rattle.mol_top.specs.Files.{file_pairs}
 use Rattle.mol_top.specs.Outcome.{Refuses, HasCause, ByNames, HasLine, Leaves, IsPrefix, WasRefusing, IsSameInEitherOrder}
 use Rattle.mol_top.specs.Output.{written_all}
 use Rattle.mol_top.specs.Outside.{Store, State}
@@ -145,4 +145,5 @@ module _ (c : Command) (old new : State) (work : Work) (made : Prepares c old.st
 
 pub either_order : (c : Command) (h : Contents) → IsSameInEitherOrder c h
 either_order (Command.merge w) h = same_swapped w h
+either_order (Command.check w) h = tt
 either_order (Command.fmt w) h = tt

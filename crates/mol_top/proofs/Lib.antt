@@ -1,7 +1,9 @@
 pub mod Answering
 pub mod Carrying
+pub mod CheckedFiles
 pub mod FormattedFiles
 pub mod ReadingBack
 pub mod ReadingFiles
+pub mod SortedPaths
 pub mod Stopping
 pub mod WritingFiles

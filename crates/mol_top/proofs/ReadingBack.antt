@@ -6,9 +6,9 @@ use Rattle.std.proofs.lemmas.Bool.Decides.{nat_tests}
 use Rattle.mol_base.specs.Limits.{most}
 use Rattle.mol_base.specs.declared.limit.Which.TheVariants.{Height}
 use Rattle.mol_outside.specs.Contents.{Contents}
+use Rattle.mol_files.specs.Files.{FilePair}
 use Rattle.mol_source.proofs.Back.{reads_back, settled}
 use Rattle.mol_top.specs.Command.{Command}
-use Rattle.mol_top.specs.Files.{FilePair}
 use Rattle.mol_top.specs.Formatting.{AreFormatted, AreReadBack}
 use Rattle.mol_top.specs.Outcome.{FilesReadBack}
 use Rattle.mol_top.specs.Output.{long_text, long_texts, tall_tree}
@@ -52,6 +52,7 @@ all_back (file ∷ files) (text ∷ texts) (height ∷ heights) are low =
 
 pub files_read_back : (c : Command) (held : Contents) → FilesReadBack c held
 files_read_back (Command.merge words) held = tt
+files_read_back (Command.check words) held = tt
 files_read_back (Command.fmt words) held = λ outcome comes.
     let back = all_back _ comes.texts comes.heights comes.has.are
     (none_tall comes.heights (second_none (long_texts 0 comes.texts) _ (second_none (long_text comes.texts) _ comes.small))) in

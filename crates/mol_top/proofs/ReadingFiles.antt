@@ -12,11 +12,11 @@ use Rattle.mol_base.specs.Limits.{most}
 use Rattle.mol_base.specs.declared.file.File.{File}
 use Rattle.mol_base.specs.declared.limit.Which.TheVariants.{Files, FileBytes, SourceBytes}
 use Rattle.mol_outside.specs.Contents.{Contents}
-use Rattle.mol_top.specs.Files.{FilePair, base_paths, bytes_at, file_pair, file_pairs, files_at}
+use Rattle.mol_files.specs.Files.{AreSmall, file_pair, file_pairs, file_paths, FilePair}
+use Rattle.mol_top.specs.Files.{base_paths, bytes_at, files_at}
 use Rattle.mol_top.specs.Command.{joined}
 use Rattle.mol_top.specs.Refusals.{absent_input, files_refusal, reading_refusal, size_refusal}
 use Rattle.mol_top.specs.Outside.{OnlyReads, Store}
-use Rattle.mol_top.specs.Output.{AreSmall}
 use Rattle.mol_top.proofs.Stopping.{OnlyReads-then}
 use Rattle.mol_top.specs.declared.status.Status.{Status}
 
@@ -24,6 +24,7 @@ use Rattle.mol_top.specs.declared.status.Status.{Status}
 -- paths refuses the rest of them after so many bytes, and the store was not written.
 pub record HasRead (old now : Store) (base : List ℕ) (paths : List (List ℕ)) (done total : ℕ) (read : List File) : Type 0 where
   pub only_reads : OnlyReads old now
+  pub paths_are : file_paths read ≡ take done paths
   pub count : length read ≡ length (take done paths)
   pub small : AreSmall read
   pub within : total ≤ most SourceBytes
@@ -54,6 +55,7 @@ HasRead-more old mid now base paths i total sum read file had within is reads th
     let next : drop i paths ≡ file.path ∷ drop (i + 1) paths = drop_more paths i file.path within ∙ ap (λ x. x ∷ drop (i + 1) paths) (sym is) in
     record {
       only_reads = OnlyReads-then old mid now had.only_reads reads;
+      paths_are = rw (map_push (λ (file : File). file.path) read file, more) (ap (λ all. all ++ file.path ∷ []) had.paths_are);
       count = rw more (length-append read (file ∷ []) ∙ ap (λ n. n + 1) had.count ∙ sym (length-append (take i paths) (file.path ∷ [])));
       small = small-push read file had.small small;
       within = under;

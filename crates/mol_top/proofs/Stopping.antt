@@ -1,12 +1,12 @@
 -- A step that stops, among others.
-use Rattle.std.proofs.Common.{◌≡◌, ◌⊎◌, inl, inr, ℕ, List, Option, false, ◌∙◌, sym, subst, arith}
+use Rattle.std.proofs.Common.{◌≡◌, ◌⊎◌, inl, inr, ℕ, Bool, List, Option, true, false, ◌∙◌, sym, subst, arith}
 use Rattle.std.specs.Prelude.{Some}
 use Rattle.mol_outside.specs.Contents.{Contents}
 use Rattle.mol_top.specs.Answers.{store_status}
 use Rattle.mol_top.specs.Command.{Command}
-use Rattle.mol_top.specs.Outcome.{ByNames}
+use Rattle.mol_top.specs.Outcome.{ByNames, addresses_line}
 use Rattle.mol_top.specs.Outside.{OnlyReads, Store}
-use Rattle.mol_top.specs.Prepared.{HasItsLine, StopsCommand}
+use Rattle.mol_top.specs.Prepared.{HasItsLine, IsStopped, StopsCommand}
 use Rattle.mol_top.specs.Report.{line_bytes, names_addresses, refusal_line}
 use Rattle.mol_top.specs.Steps.{Stops}
 use Rattle.mol_top.specs.declared.fault.StoreFault.{StoreFault}
@@ -38,6 +38,20 @@ Stops-later n0 n1 old mid new r0 r1 fault named before more stops = λ h e. more
 pub either_stops : (c : Command) (old new : Store) (s said : Status) → StopsCommand c old new s → (said ≡ s) ⊎ (said ≡ no_memory) → StopsCommand c old new said
 either_stops c old new s said stops (inl is) = subst (StopsCommand c old new) (sym is) stops
 either_stops c old new s said stops (inr is) = subst (StopsCommand c old new) (sym is) tt
+
+-- the line of any refusal of a command that names no address is that of its status
+line_of : (b : Bool) (c : Command) (store : Store) (refusal : Refusal) → ((h : Contents) (s : Status) → addresses_line c h s ≡ refusal_line s)
+    → line_bytes refusal.line ≡ refusal_line refusal.status → ByNames b (Some c) store refusal.status (λ line. line_bytes refusal.line ≡ line)
+line_of true c store refusal plain is = λ h e. is ∙ sym (plain h refusal.status)
+line_of false c store refusal plain is = is
+
+pub plain_stopped : (c : Command) (old new : Store) (s : Status) (refusal : Refusal) → ((h : Contents) (s : Status) → addresses_line c h s ≡ refusal_line s)
+    → StopsCommand c old new s → (refusal.status ≡ s) ⊎ (refusal.status ≡ no_memory) → line_bytes refusal.line ≡ refusal_line refusal.status
+    → IsStopped c old new refusal
+plain_stopped c old new s refusal plain stops said line = record {
+  cause = either_stops c old new s refusal.status stops said;
+  line = line_of (names_addresses refusal.status) c old refusal plain line;
+}
 
 -- a line that names no address
 pub plain_line : (c : Command) (store : Store) (refusal : Refusal) → names_addresses refusal.status ≡ false → line_bytes refusal.line ≡ refusal_line refusal.status

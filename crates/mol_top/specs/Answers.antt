@@ -1,9 +1,10 @@
 -- What a run answers to the faults of the calls below it.
-use Rattle.mol_top.specs.declared.fault.FormatFault.{FormatFault}
-use Rattle.mol_top.specs.declared.fault.FormatFault.TheVariants as format
+use Rattle.mol_program.specs.declared.fault.ReadFault.{ReadFault}
+use Rattle.mol_program.specs.declared.fault.ReadFault.TheVariants as read
 use Rattle.mol_top.specs.declared.fault.LimitFault.{LimitFault}
 use Rattle.mol_top.specs.declared.fault.StoreFault.{StoreFault}
 use Rattle.mol_top.specs.declared.fault.StoreFault.TheVariants as faults
+use Rattle.mol_top.specs.declared.status.BaseFault.TheVariants.{Source}
 use Rattle.mol_top.specs.declared.status.Status.{Status}
 use Rattle.mol_top.specs.declared.status.Status.TheVariants.{BaseRefused, ReadFailed, Missing, OutOfMemory, OutInUse, Limit}
 
@@ -17,6 +18,6 @@ store_status (faults.OutInUse path) = OutInUse path
 store_status (faults.Limit fault) = limit_status fault
 store_status faults.OutOfMemory = OutOfMemory
 
-abbrev pub format_status : FormatFault → Status
-format_status (format.Base fault) = BaseRefused fault
-format_status format.OutOfMemory = OutOfMemory
+abbrev pub read_status : ReadFault → Status
+read_status (read.Refused place fault) = BaseRefused (Source place fault)
+read_status read.OutOfMemory = OutOfMemory

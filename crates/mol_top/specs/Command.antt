@@ -9,6 +9,10 @@ pub record MergeWords : Type 0 where
   pub second : List ℕ
   pub out : List ℕ
 
+-- `check BASE`
+pub record CheckWords : Type 0 where
+  pub base : List ℕ
+
 -- `fmt BASE OUT`
 pub record FmtWords : Type 0 where
   pub base : List ℕ
@@ -17,10 +21,13 @@ pub record FmtWords : Type 0 where
 -- a command with its words
 pub data Command : Type 0 where
   merge : MergeWords → Command
+  check : CheckWords → Command
   fmt : FmtWords → Command
 
 -- the command that the words spell, if they spell one
 abbrev pub command : List (List ℕ) → Option Command
+command (verb ∷ base ∷ []) =
+    if pointwise nat_eq verb (codes "check") then Some (Command.check (record { base = base })) else None
 command (verb ∷ base ∷ out ∷ []) =
     if pointwise nat_eq verb (codes "fmt") then Some (Command.fmt (record { base = base; out = out })) else None
 command (verb ∷ base ∷ first ∷ second ∷ out ∷ []) =
@@ -47,9 +54,13 @@ pub record NamedPaths : Type 0 where
 abbrev pub merge_paths : MergeWords → NamedPaths
 merge_paths words = record { base = words.base; inputs = words.first ∷ words.second ∷ []; out = Some words.out }
 
+abbrev pub check_paths : CheckWords → NamedPaths
+check_paths words = record { base = words.base; inputs = []; out = None }
+
 abbrev pub fmt_paths : FmtWords → NamedPaths
 fmt_paths words = record { base = words.base; inputs = []; out = Some words.out }
 
 abbrev pub paths_of : Command → NamedPaths
 paths_of (Command.merge words) = merge_paths words
+paths_of (Command.check words) = check_paths words
 paths_of (Command.fmt words) = fmt_paths words

@@ -1,5 +1,7 @@
 pub mod Answers
+pub mod Bases
 pub mod Carried
+pub mod Checking
 pub mod Code
 pub mod Command
 pub mod Files

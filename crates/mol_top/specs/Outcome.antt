@@ -2,6 +2,7 @@
 use Rattle.std.specs.Prelude.{◌≡◌, ◌≢◌, ℕ, ◌<◌, ◌⊎◌, ⊤, Bool, true, false, List, [], Option, None, Some, IsSomeAnd}
 use Rattle.std.specs.Option.{ForSome}
 use Rattle.mol_outside.specs.Contents.{Contents, appended, HasRisen}
+use Rattle.mol_top.specs.Checking.{CheckRefuses, CheckComesTo}
 use Rattle.mol_top.specs.Command.{Command, paths_of}
 use Rattle.mol_top.specs.Formatting.{FmtRefuses, FmtComesTo, WritesSources}
 use Rattle.mol_top.specs.Outside.{Store, State}
@@ -20,16 +21,19 @@ use Rattle.mol_top.specs.renames.MergeRefusals.{refusal}
 -- what refuses a command over given contents
 abbrev pub Refuses : Command → Contents → Status → Type 0
 Refuses (Command.merge words) held status = refusal words held ≡ Some status
+Refuses (Command.check words) held status = CheckRefuses words held status
 Refuses (Command.fmt words) held status = FmtRefuses words held status
 
 -- nothing refuses it, and it comes to this
 abbrev pub ComesTo : Command → Contents → Outcome → Type 0
 ComesTo (Command.merge words) held outcome = MergeComesTo words held outcome
+ComesTo (Command.check words) held outcome = CheckComesTo words held outcome
 ComesTo (Command.fmt words) held outcome = FmtComesTo words held outcome
 
 -- the line of a refusal that names addresses of the base
 abbrev pub addresses_line : Command → Contents → Status → List ℕ
 addresses_line (Command.merge words) held status = merge_line (base_of words held) status
+addresses_line (Command.check words) held status = refusal_line status
 addresses_line (Command.fmt words) held status = refusal_line status
 
 -- the words spell a command, and over what the store held, where it tells, it comes to what is so
@@ -103,6 +107,7 @@ IsPrefix c old new status = ⊤
 -- the two logs of a merge in the other order come to the same
 abbrev pub IsSameInEitherOrder : Command → Contents → Type 0
 IsSameInEitherOrder (Command.merge words) held = refusal words held ≡ None → IsSameSwapped words held
+IsSameInEitherOrder (Command.check words) held = ⊤
 IsSameInEitherOrder (Command.fmt words) held = ⊤
 
 -- # Reading back
@@ -110,4 +115,5 @@ IsSameInEitherOrder (Command.fmt words) held = ⊤
 -- whatever `fmt` comes to, its files read back as those of the base, and formatted again they stay as they are
 abbrev pub FilesReadBack : Command → Contents → Type 0
 FilesReadBack (Command.merge words) held = ⊤
+FilesReadBack (Command.check words) held = ⊤
 FilesReadBack (Command.fmt words) held = (outcome : Outcome) → FmtComesTo words held outcome → WritesSources words held outcome

@@ -6,8 +6,8 @@ use Rattle.mol_base.specs.Limits.{most}
 use Rattle.mol_base.specs.declared.file.File.{File}
 use Rattle.mol_base.specs.declared.limit.Which.TheVariants.{FileBytes, SourceBytes, Height}
 use Rattle.mol_outside.specs.Contents.{Contents, written_at}
+use Rattle.mol_files.specs.Files.{file_pairs, FilePair}
 use Rattle.mol_top.specs.Command.{joined}
-use Rattle.mol_top.specs.Files.{FilePair, file_pairs}
 use Rattle.mol_top.specs.Report.{refusal_line}
 use Rattle.mol_top.specs.declared.output.Work.{Work}
 use Rattle.mol_top.specs.declared.status.Status.{Status}
@@ -59,10 +59,6 @@ texts_refusal texts heights = option_or (long_text texts) (option_or (long_texts
 -- no path is empty
 abbrev pub AreNamed : List File → Type 0
 AreNamed files = All (λ (file : File). 0 < length file.path) files
-
--- each is within the limit of one source
-abbrev pub AreSmall : List File → Type 0
-AreSmall files = All (λ (file : File). length file.bytes ≤ most FileBytes) files
 
 -- the line that names a file whose write failed
 abbrev pub failure_of : File → List ℕ

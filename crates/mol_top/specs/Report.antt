@@ -6,8 +6,8 @@ use Rattle.jav_rules.specs.declared.feature.Feature.{Feature}
 use Rattle.mol_base.specs.declared.file.Place.{Place}
 use Rattle.mol_base.specs.declared.limit.Which.{Which}
 use Rattle.mol_base.specs.declared.limit.Which.TheVariants as limits
-use Rattle.mol_source.specs.FaultTexts.{name, feature}
-use Rattle.mol_source.specs.declared.fault.SourceFault.{SourceFault}
+use Rattle.mol_program.specs.FaultTexts.{name, feature}
+use Rattle.mol_program.specs.declared.fault.ProgramFault.{ProgramFault}
 use Rattle.mol_top.specs.declared.refusal.Line.{Line}
 use Rattle.mol_top.specs.declared.refusal.Line.TheVariants.{Fixed, Made}
 use Rattle.mol_top.specs.declared.status.BaseFault.{BaseFault}
@@ -15,6 +15,10 @@ use Rattle.mol_top.specs.declared.status.BaseFault.TheVariants.{Source}
 use Rattle.mol_renames.specs.declared.log_cause.LogCause.TheVariants.{SharedTag, Replay}
 use Rattle.mol_top.specs.declared.status.Status.{Status}
 use Rattle.mol_top.specs.declared.status.Status.TheVariants.{Done, Conflicts, Usage, BaseRefused, LogRefused, ReadFailed, Missing, WriteFailed, OutOfMemory, OutInUse, Limit, NotBuilt}
+
+-- the number of files that are a program
+abbrev pub check_report : ℕ → List ℕ
+check_report files = codes "clean " ++ decimal files ++ 10 ∷ []
 
 -- the number of files that were written in the one layout
 abbrev pub fmt_report : ℕ → List ℕ
@@ -30,12 +34,12 @@ abbrev pub feature_text : Option Feature → List ℕ
 feature_text None = []
 feature_text (Some feature) = 32 ∷ feature_name feature
 
--- what is wrong with a source: its name, and the part of Java that it refuses where it does
-abbrev pub source_fault_text : SourceFault → List ℕ
-source_fault_text fault = name fault ++ feature_text (feature fault)
+-- what is wrong with a file: its name, and the part of Java that it refuses where it does
+abbrev pub fault_text : ProgramFault → List ℕ
+fault_text fault = name fault ++ feature_text (feature fault)
 
 abbrev pub base_fault_text : BaseFault → List ℕ
-base_fault_text (Source place fault) = place_text place ++ 32 ∷ source_fault_text fault
+base_fault_text (Source place fault) = place_text place ++ 32 ∷ fault_text fault
 
 abbrev pub limit_text : Which → List ℕ
 limit_text limits.Files = codes "files"
@@ -59,7 +63,7 @@ names_addresses status = false
 abbrev pub refusal_line : Status → List ℕ
 refusal_line Done = []
 refusal_line (Conflicts count) = []
-refusal_line Usage = codes "usage: molref fmt BASE OUT\nusage: molref merge BASE LOG1 LOG2 OUT\n"
+refusal_line Usage = codes "usage: molref check BASE\nusage: molref fmt BASE OUT\nusage: molref merge BASE LOG1 LOG2 OUT\n"
 refusal_line (BaseRefused fault) = codes "base " ++ base_fault_text fault ++ 10 ∷ []
 refusal_line (LogRefused which (SharedTag tag)) = log_line which (codes "shared-tag " ++ tag)
 refusal_line (LogRefused which (Replay fault)) = []

@@ -4,9 +4,10 @@ use Rattle.std.specs.Option.{ForSome}
 use Rattle.std.specs.List.{Contains}
 use Rattle.mol_base.specs.declared.file.File.{File}
 use Rattle.mol_outside.specs.Contents.{Contents, HasRisen, appended, elsewhere}
+use Rattle.mol_files.specs.Files.{file_pairs, FilePair}
 use Rattle.mol_top.specs.Answers.{store_status}
 use Rattle.mol_top.specs.Command.{NamedPaths, joined}
-use Rattle.mol_top.specs.Files.{FilePair, base_paths, file_pairs}
+use Rattle.mol_top.specs.Files.{base_paths}
 use Rattle.mol_top.specs.Outside.{Store, Sink, State}
 use Rattle.mol_top.specs.Output.{written_all}
 use Rattle.mol_top.specs.Refusals.{files_refusal, reading_refusal}

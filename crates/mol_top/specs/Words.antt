@@ -1,12 +1,16 @@
 -- The words of a command, as the code keeps them.
 use Rattle.mol_top.specs.Command as words
+use Rattle.mol_top.specs.declared.command.CheckWords.{CheckWords}
 use Rattle.mol_top.specs.declared.command.Command.{Command}
-use Rattle.mol_top.specs.declared.command.Command.TheVariants.{Merge, Fmt}
+use Rattle.mol_top.specs.declared.command.Command.TheVariants.{Merge, Check, Fmt}
 use Rattle.mol_top.specs.declared.command.FmtWords.{FmtWords}
 use Rattle.mol_top.specs.declared.command.MergeWords.{MergeWords}
 
 abbrev pub merge_words : MergeWords → words.MergeWords
 merge_words given = record { base = given.base.now; first = given.first.now; second = given.second.now; out = given.out.now }
+
+abbrev pub check_words : CheckWords → words.CheckWords
+check_words given = record { base = given.base.now }
 
 abbrev pub fmt_words : FmtWords → words.FmtWords
 fmt_words given = record { base = given.base.now; out = given.out.now }
@@ -14,9 +18,13 @@ fmt_words given = record { base = given.base.now; out = given.out.now }
 abbrev pub merge_command : MergeWords → words.Command
 merge_command given = words.Command.merge (merge_words given)
 
+abbrev pub check_command : CheckWords → words.Command
+check_command given = words.Command.check (check_words given)
+
 abbrev pub fmt_command : FmtWords → words.Command
 fmt_command given = words.Command.fmt (fmt_words given)
 
 abbrev pub command_of : Command → words.Command
 command_of (Merge given) = merge_command given
+command_of (Check given) = check_command given
 command_of (Fmt given) = fmt_command given

@@ -14,6 +14,12 @@ pub struct MergeWords<'a> {
     pub out: &'a Text,
 }
 
+/// The words of `check BASE` after the first.
+#[derive(Clone, Copy)]
+pub struct CheckWords<'a> {
+    pub base: &'a Text,
+}
+
 /// The words of `fmt BASE OUT` after the first.
 #[derive(Clone, Copy)]
 pub struct FmtWords<'a> {
@@ -25,6 +31,7 @@ pub struct FmtWords<'a> {
 #[derive(Clone, Copy)]
 pub enum Command<'a> {
     Merge(MergeWords<'a>),
+    Check(CheckWords<'a>),
     Fmt(FmtWords<'a>),
 }
 
@@ -33,6 +40,9 @@ pub fn parse<'a>(words: &'a [Text]) -> Option<Command<'a>>
     ensures { option_map command_of result ≡ command words.now }
 {
     match words {
+        [verb, base] if verb.bytes() == b"check".as_slice() => {
+            Some(Command::Check(CheckWords { base }))
+        }
         [verb, base, out] if verb.bytes() == b"fmt".as_slice() => {
             Some(Command::Fmt(FmtWords { base, out }))
         }

@@ -1,6 +1,7 @@
 //! Why the calls below a run fail, and what is answered to each fault.
 use crate::status::{BaseFault, Status};
 use mol_base::{OutOfMemory, Text, Which};
+use mol_program::ReadFault;
 use std::alloc::AllocFailed;
 
 /// A number that passes its limit.
@@ -20,13 +21,6 @@ pub enum StoreFault {
     /// A file is there already where files are to be written.
     OutInUse(Text),
     Limit(LimitFault),
-    OutOfMemory,
-}
-
-/// Why files have no texts in the one layout.
-#[derive(Debug, Drop)]
-pub enum FormatFault {
-    Base(BaseFault),
     OutOfMemory,
 }
 
@@ -63,28 +57,6 @@ impl<T: Drop> From<AllocFailed<T>> for StoreFault {
     }
 }
 
-impl From<OutOfMemory> for FormatFault {
-    ghost use Rattle.std.specs.Prelude.{◌≡◌};
-    ghost use Rattle.mol_top.specs.declared.fault.FormatFault.TheVariants.{OutOfMemory as Wants};
-
-    ghost from_gives = { λ _ fault. fault ≡ Wants };
-
-    fn from(_: OutOfMemory) -> FormatFault {
-        FormatFault::OutOfMemory
-    }
-}
-
-impl<T: Drop> From<AllocFailed<T>> for FormatFault {
-    ghost use Rattle.std.specs.Prelude.{◌≡◌};
-    ghost use Rattle.mol_top.specs.declared.fault.FormatFault.TheVariants.{OutOfMemory as Wants};
-
-    ghost from_gives = { λ _ fault. fault ≡ Wants };
-
-    fn from(_: AllocFailed<T>) -> FormatFault {
-        FormatFault::OutOfMemory
-    }
-}
-
 impl From<LimitFault> for Status {
     ghost use Rattle.std.specs.Prelude.{◌≡◌};
     ghost use Rattle.mol_top.specs.Answers.{limit_status};
@@ -113,16 +85,18 @@ impl From<StoreFault> for Status {
     }
 }
 
-impl From<FormatFault> for Status {
+impl From<ReadFault> for Status {
     ghost use Rattle.std.specs.Prelude.{◌≡◌};
-    ghost use Rattle.mol_top.specs.Answers.{format_status};
+    ghost use Rattle.mol_top.specs.Answers.{read_status};
 
-    ghost from_gives = { λ fault status. status ≡ format_status fault };
+    ghost from_gives = { λ fault status. status ≡ read_status fault };
 
-    fn from(fault: FormatFault) -> Status {
+    fn from(fault: ReadFault) -> Status {
         match fault {
-            FormatFault::Base(fault) => Status::BaseRefused(fault),
-            FormatFault::OutOfMemory => Status::OutOfMemory,
+            ReadFault::Refused(place, fault) => {
+                Status::BaseRefused(BaseFault::Source(place, fault))
+            }
+            ReadFault::OutOfMemory => Status::OutOfMemory,
         }
     }
 }

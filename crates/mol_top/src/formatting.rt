@@ -1,32 +1,32 @@
 //! What `fmt` writes: each source of a base in the one layout.
-ghost use Rattle.std.specs.Prelude.{◌≡◌, ◌≤◌, length, IfOk, IfErr};
-ghost use Rattle.mol_base.specs.Limits.{most};
-ghost use Rattle.mol_source.specs.Sources.{IsFormatted};
+ghost use Rattle.std.specs.Prelude.{◌≡◌, IfErr, IfOk, map};
+ghost use Rattle.mol_files.specs.Files.{file_pairs};
+ghost use Rattle.mol_sources.specs.Sources.{files_of};
 ghost use Rattle.mol_top.specs.Carried.{CarriesOwn};
 ghost use Rattle.mol_top.specs.Command.{fmt_paths};
-ghost use Rattle.mol_top.specs.Files.{file_pairs};
-ghost use Rattle.mol_top.specs.Formatting.{AreFormatted, IsTextWork, RefusesSource, RefusesSources};
-ghost use Rattle.mol_top.specs.Output.{AreSmall, IsReady};
+ghost use Rattle.mol_top.specs.Formatting.{IsTextWork, laid_out, printed_height};
+ghost use Rattle.mol_top.specs.Output.{IsReady};
 ghost use Rattle.mol_top.specs.Outside.{OnlyReads, store};
 ghost use Rattle.mol_top.specs.Prepared.{Prepares, StopsCommand};
 ghost use Rattle.mol_top.specs.Words.{fmt_command, fmt_words};
 
 use crate::command::FmtWords;
-use crate::fault::FormatFault;
 use crate::output::{Work, below, failure_lines, refuse_large};
 use crate::report::fmt_report;
-use crate::status::{BaseFault, Status};
+use crate::status::Status;
 use crate::store::{check_out, fitted, read_base};
-use mol_base::{File, OutOfMemory, Place, Text, Which};
+use mol_base::{File, List, OutOfMemory, Text};
 use mol_outside::Files;
-use mol_source::{Formatted, UnitFault, formatted, line_and_column_of};
+use mol_program::{SourceUnit, program_units};
+use mol_source::{Formatted, formatted_unit};
 use std::alloc::Global;
 
 /// All that `fmt` writes and prints: the sources below BASE in the one layout, below OUT under the same paths.
 ///
-/// Refuses, in this order, what the reading of a base refuses, the first file that is no source, a folder OUT that is
-/// in use, and a result that passes a limit. The time is linear in the bytes of the sources and of the result. Besides
-/// the sources and the texts, of which each takes the place of its source, the work of one file stands in memory.
+/// Refuses, in this order, what the reading of a base refuses, the first file that is no source, the first fault of names, a
+/// folder OUT that is in use, and a result that passes a limit. The time is near-linear in the bytes of the sources and of the
+/// result, and for each look-up of a member in the classes that it goes up. Of the sources only the trees are kept, and each text
+/// takes the place of its tree.
 pub fn prepare_fmt<F: Files>(
     alloc: Global,
     words: FmtWords<'_>,
@@ -39,7 +39,9 @@ pub fn prepare_fmt<F: Files>(
     ensures carries { IfErr result (CarriesOwn (fmt_paths (fmt_words words.entry))) }
 {
     let read = read_base(alloc, words.base, files)?;
-    let FormattedFiles { texts, heights } = formatted_files(alloc, read)?;
+    let units = program_units(alloc, read.as_slice())?;
+    drop(read);
+    let FormattedFiles { texts, heights } = formatted_files(alloc, units)?;
     check_out(alloc, words.out, files)?;
     refuse_large(texts.as_slice(), heights.as_slice())?;
     Ok(text_work(alloc, words.out, texts)?)
@@ -52,40 +54,21 @@ struct FormattedFiles {
     heights: Vec<u32>,
 }
 
-/// The files in the one layout, under the same paths. Each source is let go of once its text is made.
-fn formatted_files(alloc: Global, files: Vec<File>) -> Result<FormattedFiles, FormatFault>
-    requires { AreSmall files.items }
-    ensures texts { IfOk result (λ made. AreFormatted (file_pairs files.items) (file_pairs made.texts.items) made.heights.items) }
-    ensures fault { IfErr result (RefusesSources (file_pairs files.items)) }
+/// The trees of a program in the one layout, under the same paths. Each is let go of once its text is made.
+fn formatted_files(alloc: Global, units: List<SourceUnit>) -> Result<FormattedFiles, OutOfMemory>
+    ensures texts { IfOk result (λ made. file_pairs made.texts.items ≡ map laid_out (files_of units)) }
+    ensures heights { IfOk result (λ made. made.heights.items ≡ map printed_height (files_of units)) }
 {
     let mut texts: Vec<File> = Vec::new(alloc);
     let mut heights: Vec<u32> = Vec::new(alloc);
-    for file in files {
-        let File { path, bytes } = file;
-        let Formatted { text, height } = text_of(alloc, &path, bytes.items())?;
+    for source in units.into_vec() {
+        let SourceUnit { path, unit } = source;
+        let Formatted { text, height } = formatted_unit(alloc, unit)?;
         let bytes = fitted(text);
         texts.push(File { path, bytes })?;
         heights.push(height)?;
     }
     Ok(FormattedFiles { texts, heights })
-}
-
-/// The file of this path in the one layout.
-fn text_of(alloc: Global, path: &Text, bytes: &[u8]) -> Result<Formatted, FormatFault>
-    requires { length bytes.now ≤ most Which.FileBytes }
-    ensures text { IfOk result (λ made. IsFormatted bytes.now made.text made.height) }
-    ensures fault { IfErr result (RefusesSource (path.now, bytes.now)) }
-{
-    match formatted(alloc, bytes) {
-        Ok(formatted) => Ok(formatted),
-        Err(UnitFault::OutOfMemory) => Err(FormatFault::OutOfMemory),
-        Err(UnitFault::Source(fault)) => {
-            let (line, column) = line_and_column_of(bytes, &fault);
-            let file = path.copy(alloc)?;
-            let place = Place { file, line, column };
-            Err(FormatFault::Base(BaseFault::Source(place, fault)))
-        }
-    }
 }
 
 /// What is written and printed of these texts, below a folder.

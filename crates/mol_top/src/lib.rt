@@ -1,6 +1,7 @@
 //! One command, from its words to the bytes that are written.
 #![tactic(auto)]
 
+mod checking;
 mod command;
 mod fault;
 mod formatting;

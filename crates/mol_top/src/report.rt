@@ -1,17 +1,28 @@
 //! What a run prints.
 ghost use Rattle.std.specs.Prelude.{◌≡◌, ◌++◌, ◌∷◌, [], codes, IfOk, OnOk};
 ghost use Rattle.std.specs.Fmt.{decimal};
-ghost use Rattle.mol_top.specs.Report.{base_fault_text, fmt_report as fmt_report_of, limit_text, log_line as log_line_of, place_text};
-ghost use Rattle.mol_top.specs.Report.{refusal_line as refusal_line_of, source_fault_text};
+ghost use Rattle.mol_top.specs.Report.{base_fault_text, check_report as check_report_of, fault_text, fmt_report as fmt_report_of, limit_text};
+ghost use Rattle.mol_top.specs.Report.{log_line as log_line_of, place_text, refusal_line as refusal_line_of};
 
 use crate::status::{BaseFault, Status};
 use mol_base::{OutOfMemory, Place, Tag, Text, Which};
+use mol_program::ProgramFault;
 use mol_renames::{LogCause, push_number};
-use mol_source::SourceFault;
 use std::alloc::Global;
 
 /// A line for each command.
-pub const USAGE: &[u8] = b"usage: molref fmt BASE OUT\nusage: molref merge BASE LOG1 LOG2 OUT\n";
+pub const USAGE: &[u8] =
+    b"usage: molref check BASE\nusage: molref fmt BASE OUT\nusage: molref merge BASE LOG1 LOG2 OUT\n";
+
+/// The report of so many files that are a program.
+pub fn check_report(alloc: Global, files: usize) -> Result<Vec<u8>, OutOfMemory>
+    ensures { IfOk result (λ report. report.items ≡ check_report_of files) }
+{
+    let mut report = Vec::from_slice(alloc, b"clean ")?;
+    push_number(alloc, &mut report, files as u64)?;
+    report.push(b'\n')?;
+    Ok(report)
+}
 
 /// The report of so many files that were written in the one layout.
 pub fn fmt_report(alloc: Global, files: usize) -> Result<Vec<u8>, OutOfMemory>
@@ -60,20 +71,20 @@ fn base_line(alloc: Global, fault: &BaseFault) -> Result<Vec<u8>, OutOfMemory>
 {
     let mut line = Vec::from_slice(alloc, b"base ")?;
     match fault {
-        BaseFault::Source(place, fault) => push_source_fault(alloc, &mut line, place, fault)?,
+        BaseFault::Source(place, fault) => push_fault(alloc, &mut line, place, fault)?,
     }
     line.push(b'\n')?;
     Ok(line)
 }
 
 /// Appends a place in a file and what is wrong there.
-fn push_source_fault(
+fn push_fault(
     alloc: Global,
     out: &mut Vec<u8>,
     place: &Place,
-    fault: &SourceFault,
+    fault: &ProgramFault,
 ) -> Result<(), OutOfMemory>
-    ensures { OnOk result (out.new.items ≡ out.old.items ++ (place_text place.now ++ 32 ∷ source_fault_text fault.now)) }
+    ensures { OnOk result (out.new.items ≡ out.old.items ++ (place_text place.now ++ 32 ∷ fault_text fault.now)) }
 {
     out.extend_from_slice(place.file.bytes())?;
     out.push(b':')?;
@@ -85,8 +96,8 @@ fn push_source_fault(
 }
 
 /// Appends the name of a fault, and the part of Java that it refuses where it does.
-fn push_fault_name(out: &mut Vec<u8>, fault: &SourceFault) -> Result<(), OutOfMemory>
-    ensures { OnOk result (out.new.items ≡ out.old.items ++ source_fault_text fault.now) }
+fn push_fault_name(out: &mut Vec<u8>, fault: &ProgramFault) -> Result<(), OutOfMemory>
+    ensures { OnOk result (out.new.items ≡ out.old.items ++ fault_text fault.now) }
 {
     out.extend_from_slice(fault.name().as_bytes())?;
     if let Some(feature) = fault.feature() {

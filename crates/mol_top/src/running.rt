@@ -11,6 +11,7 @@ ghost use Rattle.mol_top.specs.Prepared.{IsStopped, Prepares};
 ghost use Rattle.mol_top.specs.Words.{command_of};
 
 use crate::Status;
+use crate::checking::prepare_check;
 use crate::command::{Command, parse};
 use crate::formatting::prepare_fmt;
 use crate::output::{Work, carry_out, refuse};
@@ -22,10 +23,11 @@ use std::alloc::Global;
 
 /// Runs one command over a store of files and a sink for what is printed.
 ///
-/// `words` are the words after the program's name. `fmt BASE OUT` writes each source below BASE in the one layout, below
-/// OUT under the same path. `merge BASE LOG1 LOG2 OUT` merges two logs over the files below BASE: it writes the merged
-/// files below OUT and then the merged log as `OUT/merged.mol`, or prints how the logs conflict. Everything that is
-/// written is made before the first write.
+/// `words` are the words after the program's name. `check BASE` tells whether the sources below BASE are a program, in which
+/// each name has a meaning. `fmt BASE OUT` writes each source of such a program in the one layout, below OUT under the same
+/// path. `merge BASE LOG1 LOG2 OUT` merges two logs over the files below BASE: it writes the merged files below OUT and then
+/// the merged log as `OUT/merged.mol`, or prints how the logs conflict. Everything that is written is made before the first
+/// write.
 pub fn run<F: Files, S: Sink>(
     alloc: Global,
     words: &List<Text>,
@@ -75,6 +77,10 @@ fn prepare<F: Files>(alloc: Global, command: Command<'_>, files: &mut F) -> Resu
 {
     match command {
         Command::Merge(words) => prepare_merge(alloc, words, files),
+        Command::Check(words) => match prepare_check(alloc, words, files) {
+            Ok(work) => Ok(work),
+            Err(status) => Err(Refusal::of(alloc, status)),
+        },
         Command::Fmt(words) => match prepare_fmt(alloc, words, files) {
             Ok(work) => Ok(work),
             Err(status) => Err(Refusal::of(alloc, status)),

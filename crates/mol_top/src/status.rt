@@ -1,13 +1,13 @@
 //! The answers of a run.
 use mol_base::{OutOfMemory, Place, Text, Which};
+use mol_program::ProgramFault;
 use mol_renames::LogCause;
-use mol_source::SourceFault;
 
 /// Why a base is refused.
 #[derive(Debug, Drop)]
 pub enum BaseFault {
-    /// The file of this place, relative to the base, is no source: there its first fault is.
-    Source(Place, SourceFault),
+    /// The files are no program: the first fault, and where it is, with the path of its file relative to the base.
+    Source(Place, ProgramFault),
 }
 
 /// What a run answers. `code` is the exit status of the program.

@@ -1,15 +1,18 @@
 //! Reading listings and files of a store. Nothing is written.
 ghost use Rattle.std.specs.Prelude.{◌≡◌, ◌≤◌, ◌<◌, ◌+◌, IfOk, IfErr, OnOk, None, Some, filter, length};
+ghost use Rattle.std.specs.Cmp.Lexicographic.{slice_cmp};
 ghost use Rattle.std.specs.Option.{ForSome};
 ghost use Rattle.std.specs.FinMap.{get};
+ghost use Rattle.std.specs.List.Sorted.{IsStrictlySortedBy};
+ghost use Rattle.std.specs.Ordering.{nat_cmp};
 ghost use Rattle.mol_base.specs.Limits.{most};
 ghost use Rattle.mol_outside.specs.Contents.{paths_below};
+ghost use Rattle.mol_files.specs.Files.{ArePathsApart, AreSmall, file_pairs, file_paths};
 ghost use Rattle.mol_top.specs.Answers.{limit_status, store_status};
 ghost use Rattle.mol_top.specs.Carried.{Carries, CarriesRead, IsAbove, IsInside, IsSourcePath, NoPath};
 ghost use Rattle.mol_top.specs.Command.{joined};
 ghost use Rattle.mol_top.specs.Files.{is_java};
 ghost use Rattle.mol_top.specs.Outside.{OnlyReads, store};
-ghost use Rattle.mol_top.specs.Output.{AreSmall};
 ghost use Rattle.mol_top.specs.Refusals.{AreBaseFiles, AreFilesAt, absent_input, out_refusal, size_refusal};
 ghost use Rattle.mol_top.specs.Steps.{IsAmong, Only, Stops, StopsBase, StopsFiles};
 
@@ -64,6 +67,7 @@ pub fn list_folder<F: Files>(
 ) -> Result<List<Text>, StoreFault>
     ensures only_reads { OnlyReads (store F.Files files.old) (store F.Files files.new) }
     ensures paths { IfOk result (λ paths. ForSome (F.holds files.old) (λ held. paths ≡ paths_below folder.now held)) }
+    ensures ascending { IfOk result (IsStrictlySortedBy (slice_cmp nat_cmp)) }
     ensures stop { IfErr result (Stops (Only folder.now) (store F.Files files.old) (store F.Files files.new) (λ held. None)) }
     ensures carries { IfErr result (λ fault. Carries (Only folder.now) NoPath NoPath (store_status fault)) }
 {
@@ -144,6 +148,7 @@ fn read_files<F: Files>(
 ) -> Result<Vec<File>, StoreFault>
     ensures only_reads { OnlyReads (store F.Files files.old) (store F.Files files.new) }
     ensures files { IfOk result (λ read. ForSome (F.holds files.old) (λ held. AreFilesAt base.now paths.items held read.items)) }
+    ensures paths { IfOk result (λ read. file_paths read.items ≡ paths.items) }
     ensures count { IfOk result (λ read. length read.items ≡ length paths.items) }
     ensures sizes { IfOk result (λ read. AreSmall read.items) }
     ensures stop { IfErr result (StopsFiles base.now paths.items (store F.Files files.old) (store F.Files files.new)) }
@@ -169,6 +174,7 @@ pub fn read_base<F: Files>(
     ensures only_reads { OnlyReads (store F.Files files.old) (store F.Files files.new) }
     ensures base { IfOk result (λ read. ForSome (F.holds files.old) (λ held. AreBaseFiles base.now held read.items)) }
     ensures few { IfOk result (λ read. (0 < length read.items) × (length read.items ≤ most Which.Files)) }
+    ensures apart { IfOk result (λ read. ArePathsApart (file_pairs read.items)) }
     ensures sizes { IfOk result (λ read. AreSmall read.items) }
     ensures stop { IfErr result (StopsBase base.now (store F.Files files.old) (store F.Files files.new)) }
     ensures carries { IfErr result (CarriesRead (IsSourcePath base.now)) }

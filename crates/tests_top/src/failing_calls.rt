@@ -210,7 +210,8 @@ fn a_run_prints_once(rt: HostRuntime) -> Result<(), Fail> {
     let alloc = rt.alloc();
     expect_failing(&rt, alloc, MERGE, second, 0, RENAMED_REPORT, 3)?;
     expect_failing(&rt, alloc, "merge C L1 L2 O", second, 6, "missing C\n", 0)?;
-    let usage = "usage: molref fmt BASE OUT\nusage: molref merge BASE LOG1 LOG2 OUT\n";
+    let usage =
+        "usage: molref check BASE\nusage: molref fmt BASE OUT\nusage: molref merge BASE LOG1 LOG2 OUT\n";
     expect_failing(&rt, alloc, "merge", second, 2, usage, 0)?;
     expect_failing_fmt(&rt, alloc, second, 0, "files 2\n", 2)?;
     let written = Failing { call: 6, ..second };

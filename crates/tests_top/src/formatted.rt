@@ -48,15 +48,15 @@ fn parentheses_that_nothing_needs_are_dropped(rt: HostRuntime) -> Result<(), Fai
     expect_text(
         &rt,
         rt.alloc(),
-        "package k; class C { int x = ((a) + (y)); int z = (C) -x; }",
-        "package k;\n\nclass C {\n    int x = a + y;\n\n    int z = C - x;\n}\n",
+        "package shop; class Cart { int x = ((x) + (y)); int y = (x) -y; }",
+        "package shop;\n\nclass Cart {\n    int x = x + y;\n\n    int y = x - y;\n}\n",
     )
 }
 
 #[test]
 fn what_is_in_the_one_layout_stays(rt: HostRuntime) -> Result<(), Fail> {
     let text =
-        "package k;\n\nclass C {\n    int x = - -1;\n\n    int y = a - -y;\n\n    int z = (C) (-x);\n\n    int c = x = y = z;\n\n    int a = c ? a : d ? e : f;\n}\n";
+        "package shop;\n\nclass Cart {\n    int x = - -1;\n\n    int y = x - -y;\n\n    int z = (Cart) (-x);\n\n    int c = x = y = z;\n\n    int a = c ? a : x ? y : z;\n}\n";
     expect_text(&rt, rt.alloc(), text, text)
 }
 
@@ -91,16 +91,16 @@ fn each_source_keeps_its_path(rt: HostRuntime) -> Result<(), Fail> {
 
 #[test]
 fn files_may_be_written_inside_the_base(rt: HostRuntime) -> Result<(), Fail> {
-    let files = [("B/A.java", SOURCES[0].1)];
-    let written = [("B/O/A.java", FORMATTED[0].1)];
+    let files = [("B/k/A.java", SOURCES[0].1)];
+    let written = [("B/o/k/A.java", FORMATTED[0].1)];
     let wanted = Wanted {
         code: 0,
         printed: "files 1\n",
         written: written.as_slice(),
     };
-    let given = Given::new("fmt B B/O", files.as_slice());
+    let given = Given::new("fmt B B/o", files.as_slice());
     expect(&rt, rt.alloc(), &given, &wanted)?;
     let given = Given::new("fmt B B", files.as_slice());
-    let wanted = Wanted::line(9, "out-in-use B/A.java\n");
+    let wanted = Wanted::line(9, "out-in-use B/k/A.java\n");
     expect(&rt, rt.alloc(), &given, &wanted)
 }

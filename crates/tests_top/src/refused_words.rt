@@ -8,13 +8,16 @@ fn other_words_print_the_usage(rt: HostRuntime) -> Result<(), Fail> {
     let files = with_logs(ANN, BOB);
     let wanted = Wanted::line(
         2,
-        "usage: molref fmt BASE OUT\nusage: molref merge BASE LOG1 LOG2 OUT\n",
+        "usage: molref check BASE\nusage: molref fmt BASE OUT\nusage: molref merge BASE LOG1 LOG2 OUT\n",
     );
     let lines = [
         "",
         "merge",
         "merge B L1 L2",
         "merge B L1 L2 O O",
+        "check",
+        "check B O",
+        "Check B",
         "fmt",
         "fmt B",
         "fmt B L1 O",

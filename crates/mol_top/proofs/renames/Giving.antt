@@ -3,7 +3,8 @@ use Rattle.std.proofs.Common.{◌≡◌, ℕ, List, Option, ◌∙◌, sym, ap, 
 use Rattle.std.specs.Prelude.{None, Some}
 use Rattle.std.specs.List.{filter_map}
 use Rattle.mol_outside.specs.Contents.{Contents}
-use Rattle.mol_top.specs.Files.{FilePair, base_files}
+use Rattle.mol_files.specs.Files.{FilePair}
+use Rattle.mol_top.specs.Files.{base_files}
 use Rattle.mol_renames.specs.BaseProgram.{base_program}
 use Rattle.mol_renames.specs.ClassFiles.{address_in}
 use Rattle.mol_top.specs.Answers.{store_status}

@@ -2,6 +2,7 @@
 use Rattle.std.specs.Prelude.{ℕ, List, Option, None, Some, option_map, is_some, if◌then◌else◌}
 use Rattle.std.specs.Option.{option_or}
 use Rattle.mol_outside.specs.Contents.{Contents}
+use Rattle.mol_files.specs.Files.{FilePair}
 use Rattle.mol_table.specs.Program.{Program}
 use Rattle.mol_renames.specs.Addresses.{unbuilt_path}
 use Rattle.mol_renames.specs.LogRefusals.{merge_refusal}
@@ -9,7 +10,7 @@ use Rattle.mol_renames.specs.declared.log.Log.{Log as LogSeen}
 use Rattle.mol_renames.specs.declared.merge.MergeFault.{MergeFault}
 use Rattle.mol_renames.specs.declared.merge.MergeFault.TheVariants.{Log, OutOfMemory}
 use Rattle.mol_top.specs.Command.{MergeWords}
-use Rattle.mol_top.specs.Files.{FilePair, base_files}
+use Rattle.mol_top.specs.Files.{base_files}
 use Rattle.mol_top.specs.Refusals.{reading_refusal, absent_input, out_refusal}
 use Rattle.mol_top.specs.renames.Inputs.{base_of, log_at}
 use Rattle.mol_top.specs.declared.status.Status.{Status}

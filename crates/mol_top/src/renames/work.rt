@@ -1,10 +1,10 @@
 //! What a merge of two logs writes and prints.
 ghost use Rattle.std.specs.Prelude.{◌≡◌, IfOk, OnOk, IfErr, None};
+ghost use Rattle.mol_files.specs.Files.{file_pairs};
 ghost use Rattle.mol_renames.specs.LogRefusals.{merge_refusal};
 ghost use Rattle.mol_renames.specs.Merging.{RefusesLogs};
 ghost use Rattle.mol_top.specs.Carried.{CarriesOwn};
 ghost use Rattle.mol_top.specs.Command.{merge_paths};
-ghost use Rattle.mol_top.specs.Files.{file_pairs};
 ghost use Rattle.mol_top.specs.Output.{IsReady, IsWork};
 ghost use Rattle.mol_top.specs.Outside.{OnlyReads, store};
 ghost use Rattle.mol_top.specs.Prepared.{IsStopped, Prepares};

@@ -12,6 +12,7 @@ use Rattle.mol_top.specs.Refusals.{files_refusal, reading_refusal}
 use Rattle.mol_top.specs.Steps.{IsAmong, IsBelow}
 use Rattle.mol_top.proofs.Carrying.{Carries-more, java_among}
 use Rattle.mol_top.proofs.ReadingFiles.{reading-listed}
+use Rattle.mol_top.proofs.SortedPaths.{paths_apart}
 use Rattle.mol_top.proofs.Stopping.{Stops-later}
 use Rattle.mol_top.proofs.store.read_base.Goals as goal
 
@@ -35,3 +36,7 @@ returns-in_err-read-clause-carries g c =
     let paths = c.in_ok-paths.paths.items in
     let below : (q : List ℕ) → IsAmong base paths q → IsSourcePath base q = λ q among. java_among base c.items.result.now q (subst (λ xs. IsAmong base xs q) c.in_ok-paths.ensures among) in
     rw (p.1, p.2) (Carries-more (IsSourcePath base) (IsAmong base paths) (IsSourcePath base) (IsAmong base paths) NoPath NoPath _ below below (λ q none. none) c.in_err-read.ensures.carries)
+
+pub returns-clause-apart : goal.returns-clause-apart
+returns-clause-apart g c = paths_apart c.in_ok-listed.listed is_java c.in_ok-read.read.items c.in_ok-listed.ensures.ascending
+    (c.in_ok-read.ensures.paths ∙ c.in_ok-paths.ensures ∙ ap (filter is_java) c.items.ensures)

@@ -1,9 +1,9 @@
 use Rattle.std.proofs.Common.{arith, ◌∙◌, ap, sym, inl, inr}
 use Rattle.std.specs.Prelude.{Some}
 use Rattle.std.proofs.lemmas.Result.{err_from_is_err_and}
+use Rattle.mol_files.specs.Files.{file_pairs}
 use Rattle.mol_top.specs.Carried.{IsInput, IsInOut, IsInside, IsRead, NoPath}
 use Rattle.mol_top.specs.Command.{merge_paths}
-use Rattle.mol_top.specs.Files.{file_pairs}
 use Rattle.mol_top.specs.Outside.{store}
 use Rattle.mol_top.specs.Refusals.{out_refusal}
 use Rattle.mol_top.specs.Steps.{IsNamed, Only}

@@ -1,8 +1,8 @@
 use Rattle.std.proofs.Common.{◌≡◌, ◌∙◌, ap, refl, map}
 use Rattle.std.proofs.lemmas.List.{length-map}
+use Rattle.mol_files.specs.Files.{file_pair, file_pairs}
 use Rattle.mol_top.specs.Command.{joined}
 use Rattle.mol_top.specs.Output.{failure_of}
-use Rattle.mol_top.specs.Files.{file_pair, file_pairs}
 use Rattle.mol_top.specs.renames.Working.{files_below}
 use Rattle.mol_top.proofs.renames.Working.{named_pairs, below_push}
 use Rattle.mol_top.proofs.renames.work.merged_work.Goals as goal

@@ -1,0 +1,2 @@
+//! Source files as contracts see them: paths with bytes. It has definitions alone.
+#![tactic(auto)]

@@ -1,0 +1,8 @@
+use Rattle.std.proofs.Common.{take}
+use Rattle.mol_files.specs.Files.{file_pairs}
+use Rattle.mol_program.specs.Programs.{AreParsed}
+use Rattle.mol_sources.specs.Sources.{files_of}
+use Rattle.mol_program.proofs.units.source_units.Given as goal
+
+abbrev pub invariant-loop-file : goal.invariant-loop-file
+invariant-loop-file l = AreParsed (file_pairs (take l.file-index l.files)) (files_of l.units)

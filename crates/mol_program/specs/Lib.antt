@@ -1,0 +1,3 @@
+pub mod FaultTexts
+pub mod Programs
+pub mod SourceTexts

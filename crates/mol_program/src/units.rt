@@ -1,0 +1,86 @@
+//! The trees of source files that are a program.
+ghost use Rattle.std.specs.Prelude.{◌≤◌, All, IfErr, IfOk, OnOk, length};
+ghost use Rattle.mol_base.specs.Limits.{most};
+ghost use Rattle.mol_plain.specs.Laws.{IsTree};
+ghost use Rattle.mol_files.specs.Files.{ArePathsApart, AreSmall, file_pair, file_pairs};
+ghost use Rattle.mol_program.specs.SourceTexts.{text_of};
+ghost use Rattle.mol_program.specs.Programs.{AreParsed, AreRead, HasProgram, IsProgram, IsUnread, Refuses};
+ghost use Rattle.mol_resolve.specs.Reported.{IsReported};
+ghost use Rattle.mol_sources.specs.Sources.{file_of, files_of};
+ghost use Rattle.mol_spell.specs.ReadAs.{IsParsed};
+
+use crate::fault::{ProgramFault, ReadFault};
+use crate::refusing::{refused, refused_names};
+use mol_base::{File, List, Which};
+use mol_name_faults::ResolveFault;
+use mol_resolve::{SourceUnit, resolve};
+use mol_source::{UnitFault, unit_of};
+use std::alloc::Global;
+
+/// Refuses source files that are no program, as `program_units` does. Their trees are let go of.
+pub fn check_files(alloc: Global, files: &[File]) -> Result<(), ReadFault>
+    requires small { AreSmall files.now }
+    requires apart { ArePathsApart (file_pairs files.now) }
+    ensures program { OnOk result (IsProgram (file_pairs files.now)) }
+    ensures fault { IfErr result (Refuses (file_pairs files.now)) }
+{
+    drop(program_units(alloc, files)?);
+    Ok(())
+}
+
+/// The trees of source files that are a program, in their order: each file is the source of its tree, and each name in them has a
+/// meaning.
+///
+/// `files` have paths relative to the folder of the program, no two the same, and at most the bytes of a source each. Refuses the first
+/// file that is the source of no tree; where there is none, the first fault of names: by the path of its file, its place there, and the
+/// order of kinds (JLS 6, 7, 8, 15). The time is near-linear in the bytes, and for each look-up of a member in the classes that it goes up.
+pub fn program_units(alloc: Global, files: &[File]) -> Result<List<SourceUnit>, ReadFault>
+    requires small { AreSmall files.now }
+    requires apart { ArePathsApart (file_pairs files.now) }
+    ensures read { IfOk result (λ units. AreRead (file_pairs files.now) (files_of units)) }
+    ensures fault { IfErr result (Refuses (file_pairs files.now)) }
+{
+    let units = source_units(alloc, files)?;
+    match refuse_names(alloc, &units) {
+        Ok(()) => Ok(units),
+        Err(fault) => Err(refused_names(alloc, files, fault)),
+    }
+}
+
+/// The trees of source files.
+fn source_units(alloc: Global, files: &[File]) -> Result<List<SourceUnit>, ReadFault>
+    requires { AreSmall files.now }
+    ensures parsed { IfOk result (λ units. AreParsed (file_pairs files.now) (files_of units)) }
+    ensures fault { IfErr result (Refuses (file_pairs files.now)) }
+{
+    let mut units = List::new(alloc);
+    for file in files {
+        let unit = source_unit(alloc, file)?;
+        units.add(unit)?;
+    }
+    Ok(units)
+}
+
+/// The tree of a source file.
+fn source_unit(alloc: Global, file: &File) -> Result<SourceUnit, ReadFault>
+    requires { length file.now.bytes ≤ most Which.FileBytes }
+    ensures parsed { IfOk result (λ source. IsParsed (text_of (file_pair file.now)) (file_of source)) }
+    ensures fault { IfErr result (IsUnread (file_pair file.now)) }
+{
+    let path = file.path.copy(alloc)?;
+    match unit_of(alloc, file.bytes.items()) {
+        Ok(unit) => Ok(SourceUnit { path, unit }),
+        Err(UnitFault::OutOfMemory) => Err(ReadFault::OutOfMemory),
+        Err(UnitFault::Source(fault)) => Err(refused(alloc, file, ProgramFault::Source(fault))),
+    }
+}
+
+/// Refuses trees that are no program. What each name in them means is let go of.
+fn refuse_names(alloc: Global, units: &List<SourceUnit>) -> Result<(), ResolveFault>
+    requires { All IsTree (files_of units.now) }
+    ensures program { OnOk result (HasProgram (files_of units.now)) }
+    ensures fault { IfErr result (IsReported (files_of units.now)) }
+{
+    drop(resolve(alloc, units)?);
+    Ok(())
+}

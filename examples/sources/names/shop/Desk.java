@@ -1,0 +1,5 @@
+package shop;
+
+public class Desk {
+    protected int count;
+}
