@@ -2,7 +2,7 @@
 use jav_lex::{Token, lex};
 use jav_parse::{Feature, ParseFault, parse, parse_body, parse_expr, parse_member, parse_type};
 use jav_tree::{Block, Expr, ExprNode, Field, Member, Stmt, StmtNode, TypeName};
-use mol_base::{Boxed, List, OutOfMemory, Text};
+use mol_base::{List, OutOfMemory};
 use std::alloc::Global;
 use std::test::Fail;
 
@@ -20,146 +20,47 @@ fn expr_of(alloc: Global, source: &str) -> Option<Expr> {
     parse_expr(alloc, tokens.items()).ok()
 }
 
-fn made(node: ExprNode) -> Expr {
-    Expr { at: 0, node }
-}
-
-fn name(alloc: Global, text: &str) -> Result<Expr, OutOfMemory> {
-    Ok(made(ExprNode::Name(Text::from_str(alloc, text)?)))
-}
-
-fn in_parens(alloc: Global, e: Expr) -> Result<Expr, OutOfMemory> {
-    Ok(made(ExprNode::Paren(Boxed::new(alloc, e)?)))
-}
-
-fn negated(alloc: Global, e: Expr) -> Result<Expr, OutOfMemory> {
-    let op = Text::from_str(alloc, "-")?;
-    Ok(made(ExprNode::Unary(op, Boxed::new(alloc, e)?)))
-}
-
-fn minus(alloc: Global, text: &str) -> Result<Expr, OutOfMemory> {
-    negated(alloc, name(alloc, text)?)
-}
-
-fn boxed(
-    alloc: Global,
-    left: Expr,
-    right: Expr,
-) -> Result<(Boxed<Expr>, Boxed<Expr>), OutOfMemory> {
-    let left = Boxed::new(alloc, left)?;
-    Ok((left, Boxed::new(alloc, right)?))
-}
-
-fn joined(alloc: Global, left: Expr, op: &str, right: Expr) -> Result<Expr, OutOfMemory> {
-    let (left, right) = boxed(alloc, left, right)?;
-    let op = Text::from_str(alloc, op)?;
-    Ok(made(ExprNode::Binary(left, op, right)))
-}
-
-fn assigned(alloc: Global, left: Expr, right: Expr) -> Result<Expr, OutOfMemory> {
-    let (left, right) = boxed(alloc, left, right)?;
-    let op = Text::from_str(alloc, "=")?;
-    Ok(made(ExprNode::Assign(left, op, right)))
-}
-
-fn chosen(alloc: Global, test: &str, first: &str, second: Expr) -> Result<Expr, OutOfMemory> {
-    let (first, second) = boxed(alloc, name(alloc, first)?, second)?;
-    let test = Boxed::new(alloc, name(alloc, test)?)?;
-    Ok(made(ExprNode::Cond(test, first, second)))
-}
-
-fn cast(alloc: Global, ty: TypeName, e: Expr) -> Result<Expr, OutOfMemory> {
-    Ok(made(ExprNode::Cast(ty, Boxed::new(alloc, e)?)))
-}
-
-const EXPRESSIONS: [&str; 8] = [
-    "(C) -x",
-    "(int) -x",
-    "- -1",
-    "a - -y",
-    "(C) (-x)",
-    "x = y = z",
-    "c ? a : d ? e : f",
-    "((a) + (y))",
+/// Expressions, each beside its reading by the precedence of operators and another one, both of these in parentheses.
+const EXPRESSIONS: [[&str; 3]; 8] = [
+    ["(C) -x", "((C) - (x))", "(C) (-x)"],
+    ["(int) -x", "(int) (-(x))", "-((int) x)"],
+    ["- -1", "-(-(1))", "-1"],
+    ["a - -y", "(a) - (-(y))", "-(a) - y"],
+    ["(C) (-x)", "((C) (-(x)))", "(C) - (x)"],
+    ["x = y = z", "x = (y = (z))", "x = (y == z)"],
+    [
+        "c ? a : d ? e : f",
+        "(c) ? (a) : ((d) ? e : f)",
+        "(c ? a : d) ? e : f",
+    ],
+    ["((a) + (y))", "a + y", "y + a"],
 ];
 
-/// `(C) -x`
-fn name_less_x(alloc: Global) -> Result<Expr, OutOfMemory> {
-    let left = in_parens(alloc, name(alloc, "C")?)?;
-    joined(alloc, left, "-", name(alloc, "x")?)
+/// The tree of an expression, if it is one, with what stands in parentheses in their place.
+fn bare_of(alloc: Global, source: &str) -> Option<Expr> {
+    expr_of(alloc, source)?.drop_parens(alloc).ok()
 }
 
-/// `(int) -x`
-fn cast_of_minus_x(alloc: Global) -> Result<Expr, OutOfMemory> {
-    let operand = minus(alloc, "x")?;
-    let ty = TypeName::Prim(Text::from_str(alloc, "int")?);
-    cast(alloc, ty, operand)
-}
-
-/// `- -1`
-fn minus_minus_one(alloc: Global) -> Result<Expr, OutOfMemory> {
-    let operand = made(ExprNode::Lit(Text::from_str(alloc, "1")?));
-    negated(alloc, negated(alloc, operand)?)
-}
-
-/// `a - -y`
-fn a_less_minus_y(alloc: Global) -> Result<Expr, OutOfMemory> {
-    let right = minus(alloc, "y")?;
-    joined(alloc, name(alloc, "a")?, "-", right)
-}
-
-/// `(C) (-x)`
-fn cast_of_parens(alloc: Global) -> Result<Expr, OutOfMemory> {
-    let operand = in_parens(alloc, minus(alloc, "x")?)?;
-    let ty = TypeName::Named(Text::from_str(alloc, "C")?);
-    cast(alloc, ty, operand)
-}
-
-/// `x = y = z`
-fn two_assignments(alloc: Global) -> Result<Expr, OutOfMemory> {
-    let left = name(alloc, "y")?;
-    let right = assigned(alloc, left, name(alloc, "z")?)?;
-    assigned(alloc, name(alloc, "x")?, right)
-}
-
-/// `c ? a : d ? e : f`
-fn two_choices(alloc: Global) -> Result<Expr, OutOfMemory> {
-    let second = chosen(alloc, "d", "e", name(alloc, "f")?)?;
-    chosen(alloc, "c", "a", second)
-}
-
-/// `((a) + (y))`
-fn sum_in_parens(alloc: Global) -> Result<Expr, OutOfMemory> {
-    let left = in_parens(alloc, name(alloc, "a")?)?;
-    let right = in_parens(alloc, name(alloc, "y")?)?;
-    in_parens(alloc, joined(alloc, left, "+", right)?)
-}
-
-/// The tree of one of these by the precedence of its operators.
-fn tree_of(alloc: Global, source: &str) -> Result<Expr, OutOfMemory> {
-    match source {
-        "(C) -x" => name_less_x(alloc),
-        "(int) -x" => cast_of_minus_x(alloc),
-        "- -1" => minus_minus_one(alloc),
-        "a - -y" => a_less_minus_y(alloc),
-        "(C) (-x)" => cast_of_parens(alloc),
-        "x = y = z" => two_assignments(alloc),
-        "c ? a : d ? e : f" => two_choices(alloc),
-        _ => sum_in_parens(alloc),
-    }
+/// Whether two sources are one expression but for parentheses.
+fn are_same(alloc: Global, source: &str, other: &str) -> Option<bool> {
+    let tree = bare_of(alloc, source)?;
+    Some(tree.same(&bare_of(alloc, other)?))
 }
 
 #[test]
-fn operators_bind_by_their_precedence(rt: HostRuntime) -> Result<(), Fail> {
-    for source in EXPRESSIONS {
-        let want = tree_of(rt.alloc(), source)?;
-        let is_right = match expr_of(rt.alloc(), source) {
-            Some(tree) => tree.same(&want),
-            None => false,
-        };
-        assert!(rt; is_right, "{source}");
+fn operators_bind_by_their_precedence(rt: HostRuntime) {
+    for [source, reading, another] in EXPRESSIONS {
+        assert_eq!(rt;
+            are_same(rt.alloc(), source, reading),
+            Some(true),
+            "{source}"
+        );
+        assert_eq!(rt;
+            are_same(rt.alloc(), source, another),
+            Some(false),
+            "{source}"
+        );
     }
-    Ok(())
 }
 
 /// Whether this is the type `int[]`.
@@ -184,24 +85,29 @@ fn body_of(alloc: Global, source: &str) -> Option<Block> {
     parse_body(alloc, tokens.items()).ok()
 }
 
+/// Whether this is the body of an empty statement at place 2.
+fn is_empty_statement(body: &Block) -> bool {
+    match body.items.items() {
+        [
+            Stmt {
+                notes,
+                at,
+                node: StmtNode::Empty,
+            },
+        ] => *at == 2 && notes.items().is_empty() && body.tail.items().is_empty(),
+        _ => false,
+    }
+}
+
 #[test]
-fn types_and_bodies_are_these_trees(rt: HostRuntime) -> Result<(), Fail> {
+fn types_and_bodies_are_these_trees(rt: HostRuntime) {
     let alloc = rt.alloc();
     assert_eq!(rt; type_is_int_array(alloc, "int[]"), Some(true));
-    let mut items = List::new(alloc);
-    items.add(Stmt {
-        notes: List::new(alloc),
-        at: 2,
-        node: StmtNode::Empty,
-    })?;
-    let tail = List::new(alloc);
-    let want = Block { items, tail };
     let is_right = match body_of(alloc, "{ ; }") {
-        Some(body) => body.same(&want),
+        Some(body) => is_empty_statement(&body),
         None => false,
     };
     assert!(rt; is_right);
-    Ok(())
 }
 
 /// Whether a field is of the type `int`, of this name and at this place, with no comments and modifiers.

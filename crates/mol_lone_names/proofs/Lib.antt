@@ -1,0 +1,4 @@
+mod FirstOutside
+mod NamesMeant
+mod VariablesMeant
+mod VariablesNamed

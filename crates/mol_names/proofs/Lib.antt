@@ -1,0 +1,6 @@
+mod DeclaredIds
+mod GivenParams
+mod MembersRead
+mod ReadersMade
+mod ReadersOver
+mod TypesRead

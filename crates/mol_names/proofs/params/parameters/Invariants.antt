@@ -1,0 +1,11 @@
+use Rattle.std.proofs.Common.{◌≡◌, Some, map, slice_get, take}
+use Rattle.std.specs.List.{zip}
+use Rattle.jav_scope.specs.declared.source.SourceUnit.{SourceUnit}
+use Rattle.mol_chains.specs.InMembers.{view_param}
+use Rattle.mol_members.specs.Rows.{type_at}
+use Rattle.mol_names.proofs.params.parameters.Given as goal
+use Rattle.mol_names.specs.Given.{given_param}
+
+abbrev pub invariant-loop-place : goal.invariant-loop-place
+invariant-loop-place l = (source : SourceUnit) → slice_get l.scope l.unit ≡ Some source
+    → map view_param l.given.items ≡ take l.place (map (given_param (type_at l.scope l.unit source)) (zip l.ids l.params))

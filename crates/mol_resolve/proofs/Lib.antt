@@ -1,0 +1,5 @@
+pub mod ReadInOrder
+pub mod FilesAdded
+pub mod FaultsMet
+pub mod AtPlaces
+pub mod PlainPrograms

@@ -1,0 +1,4 @@
+pub mod Added
+pub mod ReadAtPlaces
+pub mod Reported
+pub mod Seen

@@ -1,0 +1,14 @@
+//! What source files mean: the program that they are, with each name in them by identity, or the first fault for which they are none.
+#![tactic(auto)]
+
+mod entities;
+mod file_reader;
+mod first_met;
+mod members;
+mod resolving;
+mod superclass;
+
+pub use jav_scope::SourceUnit;
+pub use mol_name_faults::{FaultPlace, ResolveFault};
+pub use mol_table::Table;
+pub use resolving::resolve;
