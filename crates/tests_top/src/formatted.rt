@@ -48,16 +48,23 @@ fn parentheses_that_nothing_needs_are_dropped(rt: HostRuntime) -> Result<(), Fai
     expect_text(
         &rt,
         rt.alloc(),
-        "package shop; class Cart { int x = ((x) + (y)); int y = (x) -y; }",
-        "package shop;\n\nclass Cart {\n    int x = x + y;\n\n    int y = x - y;\n}\n",
+        "package shop; class Cart { int y; int a = ((a) + (y)); int Cart; int x = (Cart) -x; }",
+        "package shop;\n\nclass Cart {\n    int y;\n\n    int a = a + y;\n\n    int Cart;\n\n    int x = Cart - x;\n}\n",
     )
 }
 
 #[test]
 fn what_is_in_the_one_layout_stays(rt: HostRuntime) -> Result<(), Fail> {
     let text =
-        "package shop;\n\nclass Cart {\n    int x = - -1;\n\n    int y = x - -y;\n\n    int z = (Cart) (-x);\n\n    int c = x = y = z;\n\n    int a = c ? a : x ? y : z;\n}\n";
-    expect_text(&rt, rt.alloc(), text, text)
+        "package k;\n\nclass C {\n    int x = - -1;\n\n    int y = a - -y;\n\n    int z = (C) (-x);\n\n    int c = x = y = z;\n\n    int a = c ? a : d ? e : f;\n\n    int d;\n\n    int e;\n\n    int f;\n}\n";
+    let files = [("B/k/C.java", text)];
+    let written = [("O/k/C.java", text)];
+    let wanted = Wanted {
+        code: 0,
+        printed: "files 1\n",
+        written: written.as_slice(),
+    };
+    expect(&rt, rt.alloc(), &Given::new(FMT, files.as_slice()), &wanted)
 }
 
 /// The imports ascend, comments keep their bytes, and one empty line stands between members.
