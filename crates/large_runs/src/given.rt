@@ -111,19 +111,19 @@ impl Inputs {
         Ok(Inputs::of_program(files))
     }
 
-    /// So many sources, each with 55,000 fields, whose texts in the one layout are half as long again.
+    /// So many sources, each with 2,400 statements, whose texts in the one layout are 380 times as long.
     pub fn of_long_texts(alloc: Global, count: u32) -> Result<Inputs, OutOfMemory> {
         let mut files = List::new(alloc);
         for number in 0..count {
-            let text = with_fields(alloc, number, 55_000)?;
+            let text = with_statements(alloc, number, 2_400)?;
             files.add(source(alloc, number, text.as_str())?)?;
         }
         Ok(Inputs::of_program(files))
     }
 
-    /// One source with so many fields.
-    pub fn of_fields(alloc: Global, count: u32) -> Result<Inputs, OutOfMemory> {
-        let text = with_fields(alloc, 0, count)?;
+    /// One source with so many statements.
+    pub fn of_statements(alloc: Global, count: u32) -> Result<Inputs, OutOfMemory> {
+        let text = with_statements(alloc, 0, count)?;
         Inputs::of_text(alloc, text.as_str())
     }
 
@@ -193,16 +193,12 @@ fn padded(alloc: Global, number: u32, count: u32) -> Result<String, OutOfMemory>
     Ok(text)
 }
 
-/// A source of the class of this number with so many fields.
-fn with_fields(alloc: Global, number: u32, count: u32) -> Result<String, OutOfMemory> {
-    let mut text = format!(in alloc; "package k;class C{number}{{")?;
-    for field in 0..count {
-        let field = 100_000 + u64::from(field);
-        let field = format!(in alloc; "int a{field};")?;
-        text.push_str(field.as_str())?;
-    }
-    text.push('}')?;
-    Ok(text)
+/// A source of the class of this number with so many empty statements in a hundred blocks, one in another.
+fn with_statements(alloc: Global, number: u32, count: u32) -> Result<String, OutOfMemory> {
+    let front = format!(in alloc; "package k;class C{number}{{void m(){{")?;
+    let open = repeated(alloc, front.as_str(), "{", 100, "")?;
+    let full = repeated(alloc, open.as_str(), ";", count, "")?;
+    repeated(alloc, full.as_str(), "}", 102, "")
 }
 
 /// The source of the class of this number.

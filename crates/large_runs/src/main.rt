@@ -59,7 +59,7 @@ fn inputs(alloc: Global, word: &str, count: u32) -> Result<Option<Inputs>, OutOf
         "bytes" => Inputs::of_bytes(alloc, count)?,
         "together" => Inputs::of_bytes_together(alloc, count)?,
         "long-texts" => Inputs::of_long_texts(alloc, count)?,
-        "fields" => Inputs::of_fields(alloc, count)?,
+        "statements" => Inputs::of_statements(alloc, count)?,
         "name" => Inputs::of_name(alloc, count)?,
         "pairs" => Inputs::of_pairs(alloc, count)?,
         "commas" => Inputs::of_arguments(alloc, count)?,

@@ -22,8 +22,8 @@ pub struct Formatted {
     pub height: u32,
 }
 
-/// A tree in the one layout, and how high it is as printed. What is formatted is the same program, and formatting it again changes
-/// nothing.
+/// A tree in the one layout, without the parentheses of its source, and how high it is as printed. The text has that tree again, and
+/// the text of that one is the same; what names mean without parentheses is not asked.
 ///
 /// The time is linear in the tree and in the text.
 pub fn formatted_unit(alloc: Global, unit: Unit) -> Result<Formatted, OutOfMemory>

@@ -112,7 +112,7 @@ IsSameInEitherOrder (Command.fmt words) held = ⊤
 
 -- # Reading back
 
--- whatever `fmt` comes to, its files read back as those of the base, and formatted again they stay as they are
+-- whatever `fmt` comes to, its files have the trees of those of the base as printed, and are in the one layout already
 abbrev pub FilesReadBack : Command → Contents → Type 0
 FilesReadBack (Command.merge words) held = ⊤
 FilesReadBack (Command.check words) held = ⊤

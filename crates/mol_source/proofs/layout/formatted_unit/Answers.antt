@@ -5,8 +5,8 @@ use Rattle.mol_source.proofs.layout.formatted_unit.Goals as goal
 
 pub returns-clause-back : goal.returns-clause-back
 returns-clause-back c bytes is low = reads_back bytes c.in_ok-print.field-0 c.printed_height-height.result
-    (record { unit = c.args.unit; is = is; layout = c.in_ok-print.ensures ∙ ap unit_text c.in_ok-unit.ensures; printed = c.printed_height-height.ensures }) low
+    (record { unit = c.args.unit; is = is; layout = c.in_ok-print.ensures.same ∙ ap unit_text c.in_ok-unit.ensures.value; printed = c.printed_height-height.ensures }) low
 
 pub returns-clause-settled : goal.returns-clause-settled
 returns-clause-settled c bytes is low = settled bytes c.in_ok-print.field-0 c.printed_height-height.result
-    (record { unit = c.args.unit; is = is; layout = c.in_ok-print.ensures ∙ ap unit_text c.in_ok-unit.ensures; printed = c.printed_height-height.ensures }) low
+    (record { unit = c.args.unit; is = is; layout = c.in_ok-print.ensures.same ∙ ap unit_text c.in_ok-unit.ensures.value; printed = c.printed_height-height.ensures }) low
