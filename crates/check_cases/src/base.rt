@@ -5,20 +5,20 @@ use std::alloc::Global;
 /// The files of these lines, below the folder of the base.
 pub(crate) fn files_of(alloc: Global, lines: &str) -> Result<List<File>, OutOfMemory> {
     let mut files = List::new(alloc);
-    let mut path = "";
+    let mut path = String::new(alloc);
     let mut text = String::new(alloc);
     for line in lines.lines() {
         if let Some(rest) = line.strip_prefix('\t') {
             text.push('\n')?;
             text.push_str(rest)?;
         } else {
-            add_file(alloc, &mut files, path, text.as_str())?;
+            add_file(alloc, &mut files, path.as_str(), text.as_str())?;
             let (first, rest) = line.split_once(' ').unwrap_or((line, ""));
-            path = first;
+            path = String::from_str(alloc, first)?;
             text = String::from_str(alloc, rest)?;
         }
     }
-    add_file(alloc, &mut files, path, text.as_str())?;
+    add_file(alloc, &mut files, path.as_str(), text.as_str())?;
     Ok(files)
 }
 
