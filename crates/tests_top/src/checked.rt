@@ -19,19 +19,6 @@ const DESK: (&str, &str) = (
     "package shop;\n\npublic class Desk {\n    protected int count;\n}\n",
 );
 
-/// Both commands refuse the files of the base, with this line.
-fn expect_refused(
-    rt: &impl Abort,
-    alloc: Global,
-    files: &[(&str, &str)],
-    line: &str,
-) -> Result<(), Fail> {
-    for words in [CHECK, FMT] {
-        expect(rt, alloc, &Given::new(words, files), &Wanted::line(3, line))?;
-    }
-    Ok(())
-}
-
 /// A subclass reads the field that it inherits.
 #[test]
 fn a_program_is_clean(rt: HostRuntime) -> Result<(), Fail> {
@@ -48,8 +35,11 @@ fn a_member_that_is_not_found_is_named(rt: HostRuntime) -> Result<(), Fail> {
     let till =
         "package shop;\n\npublic class Till extends Desk {\n    public int pay(Cart cart) {\n        return tax(1);\n    }\n}\n";
     let files = [CART, DESK, ("B/shop/Till.java", till)];
-    let line = "base shop/Till.java:5:16 unknown-member\n";
-    expect_refused(&rt, rt.alloc(), files.as_slice(), line)
+    let wanted = Wanted::line(3, "base shop/Till.java:5:16 unknown-member\n");
+    let given = Given::new(CHECK, files.as_slice());
+    expect(&rt, rt.alloc(), &given, &wanted)?;
+    let given = Given::new(FMT, files.as_slice());
+    expect(&rt, rt.alloc(), &given, &wanted)
 }
 
 /// A line ends at CR, at LF and at CR LF. A column counts characters, of which a tab is one.
@@ -57,8 +47,12 @@ fn a_member_that_is_not_found_is_named(rt: HostRuntime) -> Result<(), Fail> {
 fn a_name_is_found_at_its_line_and_column(rt: HostRuntime) -> Result<(), Fail> {
     let text =
         "package k;\r\nclass A {\r\t/* \u{e9}\u{20ac}\u{1f600} */ int m() { return x; }\n}\n";
-    let line = "base k/A.java:3:29 unknown-name\n";
-    expect_refused(&rt, rt.alloc(), [("B/k/A.java", text)].as_slice(), line)
+    let files = [("B/k/A.java", text)];
+    let wanted = Wanted::line(3, "base k/A.java:3:29 unknown-name\n");
+    let given = Given::new(CHECK, files.as_slice());
+    expect(&rt, rt.alloc(), &given, &wanted)?;
+    let given = Given::new(FMT, files.as_slice());
+    expect(&rt, rt.alloc(), &given, &wanted)
 }
 
 /// Both classes are in the circle: the file of the least path is named.
@@ -68,8 +62,11 @@ fn classes_that_extend_each_other_are_refused(rt: HostRuntime) -> Result<(), Fai
         ("B/k/A.java", "package k; class A extends B { }"),
         ("B/k/B.java", "package k; class B extends A { }"),
     ];
-    let line = "base k/A.java:1:1 super-cycle\n";
-    expect_refused(&rt, rt.alloc(), files.as_slice(), line)
+    let wanted = Wanted::line(3, "base k/A.java:1:1 super-cycle\n");
+    let given = Given::new(CHECK, files.as_slice());
+    expect(&rt, rt.alloc(), &given, &wanted)?;
+    let given = Given::new(FMT, files.as_slice());
+    expect(&rt, rt.alloc(), &given, &wanted)
 }
 
 #[test]
@@ -78,37 +75,59 @@ fn texts_come_before_names(rt: HostRuntime) -> Result<(), Fail> {
         ("B/k/A.java", "package k; class A { int a = b; }"),
         ("B/k/B.java", "package k; class B { int a = #; }"),
     ];
-    let line = "base k/B.java:1:30 bad-char\n";
-    expect_refused(&rt, rt.alloc(), files.as_slice(), line)
+    let wanted = Wanted::line(3, "base k/B.java:1:30 bad-char\n");
+    let given = Given::new(CHECK, files.as_slice());
+    expect(&rt, rt.alloc(), &given, &wanted)?;
+    let given = Given::new(FMT, files.as_slice());
+    expect(&rt, rt.alloc(), &given, &wanted)
 }
 
 #[test]
 fn names_come_before_files_that_are_there(rt: HostRuntime) -> Result<(), Fail> {
     let files = [("B/k/A.java", "package k; class B { }"), ("O/old.txt", "x")];
-    let line = "base k/A.java:1:1 path-differs\n";
-    expect_refused(&rt, rt.alloc(), files.as_slice(), line)
+    let wanted = Wanted::line(3, "base k/A.java:1:1 path-differs\n");
+    let given = Given::new(CHECK, files.as_slice());
+    expect(&rt, rt.alloc(), &given, &wanted)?;
+    let given = Given::new(FMT, files.as_slice());
+    expect(&rt, rt.alloc(), &given, &wanted)
+}
+
+/// Runs `check` over two sources, where this call on files and these puts fail.
+fn expect_failing(
+    rt: &impl Abort,
+    alloc: Global,
+    failing: &[u64],
+    puts: &[u64],
+    wanted: &Wanted<'_>,
+) -> Result<(), Fail> {
+    let files = [CART, DESK];
+    let given = Given {
+        words: CHECK,
+        files: files.as_slice(),
+        room: 1_000,
+        failing,
+        failing_puts: puts,
+    };
+    expect(rt, alloc, &given, wanted)
 }
 
 /// Each of its calls that fails: the listing, the reading of each file, and the put of what is printed.
 #[test]
 fn each_call_of_check_that_fails_is_named(rt: HostRuntime) -> Result<(), Fail> {
-    let files = [CART, DESK];
     let lines = [
         (1, "read-failed B\n"),
         (2, "read-failed B/shop/Cart.java\n"),
         (3, "read-failed B/shop/Desk.java\n"),
     ];
     for (call, line) in lines {
-        let failing = [call];
-        let given = Given {
-            failing: failing.as_slice(),
-            ..Given::new(CHECK, files.as_slice())
-        };
-        expect(&rt, rt.alloc(), &given, &Wanted::line(5, line))?;
+        let calls = [call];
+        expect_failing(
+            &rt,
+            rt.alloc(),
+            calls.as_slice(),
+            &[],
+            &Wanted::line(5, line),
+        )?;
     }
-    let given = Given {
-        failing_puts: &[1],
-        ..Given::new(CHECK, files.as_slice())
-    };
-    expect(&rt, rt.alloc(), &given, &Wanted::line(7, ""))
+    expect_failing(&rt, rt.alloc(), &[], &[1], &Wanted::line(7, ""))
 }
