@@ -55,13 +55,20 @@ def write_clean(what, sources):
     return base
 
 
-def compare(what, sources):
+def measure(what, sources):
+    """Prints the time and the peak memory of a check, and answers the folder of the sources and the time."""
     base = write_clean(what, sources)
     ours, peak = timed([PROGRAM, "check", base])
     size = sum(map(len, sources.values()))
     print(f"{what}: {len(sources)} files, {size} bytes")
     print(f"  molref check, whole process, best of {RUNS}: {ours * 1000:.0f} ms, {size / ours / 1e6:.1f} MB/s; "
           f"peak memory {peak / 1e6:.1f} MB, {peak / size:.1f} times the sources", flush=True)
+    return base, ours
+
+
+def compare(what, sources):
+    """Measures a check beside javac over the same files."""
+    base, ours = measure(what, sources)
     if shutil.which("javac") is None:
         print("  no javac on this machine")
         return
@@ -104,7 +111,7 @@ def wide(number):
 
 print(f"cores {os.cpu_count()}, load {os.getloadavg()[0]:.1f}")
 compare("generated", programs.generated(1000))
-compare("generated, 16 MB", programs.generated(2000))
+measure("generated, 16 MB", programs.generated(2000))
 growing("chain of classes", chain, 4000)
 growing("fields of a class", wide, 10000)
 if real := programs.of_machine(PROGRAM, WORK, FILES, MOST, TOGETHER):
