@@ -17,7 +17,7 @@ use Rattle.mol_program.specs.declared.fault.ReadFault.TheVariants.{Refused, OutO
 use Rattle.mol_source.specs.Sources.{IsFaultOf}
 use Rattle.mol_source.specs.declared.fault.SourceFault.{SourceFault}
 use Rattle.mol_spell.specs.Files.{File, Files}
-use Rattle.mol_spell.specs.ReadAs.{FilesReadAs, IsParsed, ReadAs}
+use Rattle.mol_spell.specs.ReadAs.{FilesReadAs, IsParsed, IsPlain, ReadAs}
 use Rattle.mol_table.specs.Program.{Program}
 
 -- # Programs
@@ -40,6 +40,13 @@ pub record AreRead (files : List FilePair) (trees : Files) : Type 0 where
 pub record IsProgram (files : List FilePair) : Type 0 where
   pub program : Program
   pub read : ReadAs (texts_of files) program
+
+-- the files are the sources of trees that read as this program, which is in plain form
+pub record IsReadAs (files : List FilePair) (program : Program) : Type 0 where
+  pub trees : Files
+  pub parsed : AreParsed files trees
+  pub read : FilesReadAs trees program
+  pub plain : IsPlain trees program
 
 -- # Files that are none
 

@@ -7,4 +7,4 @@ mod units;
 
 pub use fault::{ProgramFault, ReadFault};
 pub use mol_resolve::SourceUnit;
-pub use units::{check_files, program_units};
+pub use units::{check_files, program_units, read_program};

@@ -4,7 +4,7 @@ ghost use Rattle.mol_base.specs.Limits.{most};
 ghost use Rattle.mol_plain.specs.Laws.{IsTree};
 ghost use Rattle.mol_files.specs.Files.{ArePathsApart, AreSmall, file_pair, file_pairs};
 ghost use Rattle.mol_program.specs.SourceTexts.{text_of};
-ghost use Rattle.mol_program.specs.Programs.{AreParsed, AreRead, HasProgram, IsProgram, IsUnread, Refuses};
+ghost use Rattle.mol_program.specs.Programs.{AreParsed, AreRead, HasProgram, IsProgram, IsReadAs, IsUnread, Refuses};
 ghost use Rattle.mol_resolve.specs.Reported.{IsReported};
 ghost use Rattle.mol_sources.specs.Sources.{file_of, files_of};
 ghost use Rattle.mol_spell.specs.ReadAs.{IsParsed};
@@ -13,19 +13,37 @@ use crate::fault::{ProgramFault, ReadFault};
 use crate::refusing::{refused, refused_names};
 use mol_base::{File, List, Which};
 use mol_name_faults::ResolveFault;
-use mol_resolve::{SourceUnit, resolve};
+use mol_resolve::{SourceUnit, resolve, resolve_units};
 use mol_source::{UnitFault, unit_of};
+use mol_table::Table;
 use std::alloc::Global;
 
-/// Refuses source files that are no program, as `program_units` does. Their trees are let go of.
+/// Refuses source files that are no program, as `read_program` does.
 pub fn check_files(alloc: Global, files: &[File]) -> Result<(), ReadFault>
     requires small { AreSmall files.now }
     requires apart { ArePathsApart (file_pairs files.now) }
     ensures program { OnOk result (IsProgram (file_pairs files.now)) }
     ensures fault { IfErr result (Refuses (file_pairs files.now)) }
 {
-    drop(program_units(alloc, files)?);
+    drop(read_program(alloc, files)?);
     Ok(())
+}
+
+/// The program that source files read as, with each name in them by identity: the one table in plain form.
+///
+/// `files` are as `program_units` takes them, and are refused as it refuses them. Their trees are let go of before the table is made, so that
+/// memory never holds both.
+pub fn read_program(alloc: Global, files: &[File]) -> Result<Table, ReadFault>
+    requires small { AreSmall files.now }
+    requires apart { ArePathsApart (file_pairs files.now) }
+    ensures read { IfOk result (IsReadAs (file_pairs files.now)) }
+    ensures fault { IfErr result (Refuses (file_pairs files.now)) }
+{
+    let units = source_units(alloc, files)?;
+    match resolve_units(alloc, units) {
+        Ok(table) => Ok(table),
+        Err(fault) => Err(refused_names(alloc, files, fault)),
+    }
 }
 
 /// The trees of source files that are a program, in their order: each file is the source of its tree, and each name in them has a

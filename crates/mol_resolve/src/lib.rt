@@ -11,4 +11,4 @@ mod superclass;
 pub use jav_scope::SourceUnit;
 pub use mol_name_faults::{FaultPlace, ResolveFault};
 pub use mol_table::Table;
-pub use resolving::resolve;
+pub use resolving::{resolve, resolve_units};

@@ -33,10 +33,31 @@ pub fn resolve(alloc: Global, units: &List<SourceUnit>) -> Result<Table, Resolve
     ensures plain { IfOk result (IsPlain (files_of units.now)) }
     ensures fault { IfErr result (IsReported (files_of units.now)) }
 {
+    let entities = all_entities(alloc, units)?;
+    Ok(table_of(alloc, entities)?)
+}
+
+/// As `resolve`, but lets go of the trees before it makes the table, so that memory never holds both.
+pub fn resolve_units(alloc: Global, units: List<SourceUnit>) -> Result<Table, ResolveFault>
+    requires { All IsTree (files_of units) }
+    ensures read { IfOk result (FilesReadAs (files_of units)) }
+    ensures plain { IfOk result (IsPlain (files_of units)) }
+    ensures fault { IfErr result (IsReported (files_of units)) }
+{
+    let entities = all_entities(alloc, &units)?;
+    drop(units);
+    Ok(table_of(alloc, entities)?)
+}
+
+/// All entities of source files, in the order of their numbers; or the first fault.
+fn all_entities(alloc: Global, units: &List<SourceUnit>) -> Result<List<NewEntity>, ResolveFault>
+    ensures none { OnOk result (HasNoFault (files_of units.now)) }
+    ensures entities { IfOk result (λ entities. entities ≡ plain_entities (files_of units.now)) }
+    ensures fault { IfErr result (IsReported (files_of units.now)) }
+{
     let scope = Scope::new(alloc, units)?;
     let order = by_path(alloc, units.items())?;
-    let entities = entities_of(alloc, units, &scope, order.as_slice())?;
-    Ok(table_of(alloc, entities)?)
+    entities_of(alloc, units, &scope, order.as_slice())
 }
 
 /// All entities of source files, in the order of their numbers; or the first fault. The files are read in the order of their paths.

@@ -1,7 +1,9 @@
-use Rattle.mol_files.specs.Files.{file_pairs}
-use Rattle.mol_program.proofs.TreesOfFiles.{program-of}
 use Rattle.mol_program.proofs.units.check_files.Goals as goal
-use Rattle.mol_sources.specs.Sources.{files_of}
 
 pub returns-clause-program : goal.returns-clause-program
-returns-clause-program c = program-of (file_pairs c.args.files.now) (files_of c.in_ok-program_units.field-0) c.in_ok-program_units.ensures.read
+returns-clause-program c =
+    let read = c.in_ok-read_program.ensures.read in
+    record {
+      program = c.in_ok-read_program.field-0;
+      read = record { files = read.trees; parsed = read.parsed; read = read.read };
+    }

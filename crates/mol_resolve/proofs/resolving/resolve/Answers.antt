@@ -19,5 +19,5 @@ returns-clause-plain c =
 
 pub returns-in_err-entities-clause-fault : goal.returns-in_err-entities-clause-fault
 returns-in_err-entities-clause-fault c =
-    let out = err_from_is_err_and c.from_residual-in_err-entities.result c.from_residual-in_err-entities.ensures.1 in
+    let out = err_from_is_err_and c.from_residual.result c.from_residual.ensures.1 in
     rw (out.1, out.2) c.in_err-entities.ensures.fault
