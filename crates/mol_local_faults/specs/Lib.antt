@@ -1,0 +1,2 @@
+pub mod PartScopes
+pub mod Clashing

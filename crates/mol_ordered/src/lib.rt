@@ -1,0 +1,6 @@
+//! Rows in order, each once.
+#![tactic(auto)]
+
+mod ordered;
+
+pub use ordered::in_order;

@@ -1,0 +1,226 @@
+-- Whether methods that are named alike are one.
+use Rattle.std.proofs.Common.{◌≡◌, ◌≢◌, ℕ, zero, suc, ◌+◌, ◌-◌, ◌<◌, ◌≤◌, Bool, true, false, not, cond, List, [], ◌∷◌, ◌++◌, length, length-drop, get_or, get_or-drop, take, drop, filter, filter_map, flat_map, take_while, Option, Some, None, Contains, slice_get, refl, sym, ◌∙◌, ap, arith, true≢false, IsPermutation, Ordering, Less, Equal, Greater}
+use Rattle.std.specs.Cmp.{IsTotalOrder, IsStrictWeakOrder}
+use Rattle.std.specs.List.{cons_option}
+use Rattle.std.specs.List.Sorted.{IsPartitionPoint, IsPartitionedBy, IsSorted, IsSortedBy}
+use Rattle.std.specs.Ordering.{is_eq, is_lt, ordering_reverse, ordering_then}
+use Rattle.std.specs.Prelude.{◌↔◌, IsFalse}
+use Rattle.std.proofs.lemmas.Cmp.{on_total, then_total, tied_itself}
+use Rattle.std.proofs.lemmas.List.Kept.{IsSortedBy-filter}
+use Rattle.std.proofs.lemmas.List.Sorted.{Contains-permutation, ranks_by, sorted_far}
+use Rattle.std.proofs.lemmas.List.Sums.{take_while-cons}
+use Rattle.jav_index.proofs.Searched.{equal-is, get-within}
+use Rattle.jav_view.proofs.Lists.{neither_less, stands_first, stands_later}
+use Rattle.jav_view.specs.Views.{IsKeyOrder}
+use Rattle.mol_base.specs.Order.{id_cmp, id_cmp-total, id_cmp-IsAntisymmetric}
+use Rattle.mol_base.specs.declared.ident.Id.{Id}
+use Rattle.mol_override_faults.specs.Declarations.{Naming, key_cmp, key_of, naming_cmp, naming_of}
+use Rattle.mol_override_faults.specs.Overridden.{AreOfOneMethod, has_key, has_naming, key_in, methods_cmp, methods_differ, naming_at, overridden_by, overridden_in, pair_above}
+use Rattle.mol_override_faults.specs.declared.declaration.Declaration.{Declaration}
+use Rattle.mol_override_faults.proofs.Filtered.{filter-from}
+use Rattle.mol_override_faults.proofs.Keys.{key-order, naming-order}
+use Rattle.mol_pair_faults.specs.Pairs.{ordered_pair}
+use Rattle.mol_pair_faults.proofs.Fronts.{ascend, between}
+use Rattle.mol_spell.proofs.Stands.{get-below, in_place}
+use Rattle.mol_spelling.proofs.FilesOrdered.{filter-passes, filter-stands}
+use Rattle.mol_table.proofs.Living.{same_id-own}
+use Rattle.mol_table.specs.Ancestors.{way}
+use Rattle.mol_table.specs.Program.{Program, same_id}
+use Rattle.mol_values.proofs.Ties.{id_ties}
+use Rattle.mol_values.specs.Order.{id_eq}
+
+pub methods_cmp-total : IsTotalOrder methods_cmp
+methods_cmp-total = then_total (on_total naming_at naming-order.total) (on_total (λ (d : Declaration). d.method) id_cmp-total)
+
+id-order : IsKeyOrder id_cmp
+id-order = record { total = id_cmp-total; same = id_cmp-IsAntisymmetric }
+
+eq-own : (first second : Id) → first ≡ second → id_eq first second ≡ true
+eq-own first second same = id_ties first second ∙ ap (same_id first) (sym same) ∙ same_id-own first
+
+eq-is : (first second : Id) → id_eq first second ≡ true → first ≡ second
+eq-is first second is = id_cmp-IsAntisymmetric first second (equal-is (id_cmp first second) (sym (id_ties first second) ∙ is))
+
+-- ---- where a method has no rival
+
+pub one-method : (rows moved : List Declaration) → IsPermutation rows moved → (naming : Naming) → AreOfOneMethod moved naming
+    → AreOfOneMethod rows naming
+one-method rows moved same naming alone first second of-first of-second =
+    alone first second (Contains-permutation rows moved first same of-first) (Contains-permutation rows moved second same of-second)
+
+filter_map-none : {X Y : Type 0} (made : X → Option Y) (xs : List X) → ((x : X) → Contains xs x → made x ≡ None) → filter_map made xs ≡ []
+filter_map-none made [] none = refl
+filter_map-none made (x ∷ xs) none = ap (λ o. cons_option o (filter_map made xs)) (none x (stands_first x xs))
+    ∙ filter_map-none made xs (λ y stands. none y (stands_later x y xs stands))
+
+flat_map-none : {X Y : Type 0} (made : X → List Y) (xs : List X) → ((x : X) → made x ≡ []) → flat_map made xs ≡ []
+flat_map-none made [] none = refl
+flat_map-none made (x ∷ xs) none = (λ i. none x i ++ flat_map made xs) ∙ flat_map-none made xs none
+
+named : (naming : Naming) (row : Declaration) → naming ≡ naming_at row → has_naming naming row ≡ true
+named naming row same = ap is_eq (ap (naming_cmp naming) (sym same) ∙ tied_itself naming-order.total naming)
+
+module _ (program : Program) (rows : List Declaration) (row : Declaration) (stands : Contains rows row)
+    (alone : AreOfOneMethod rows (naming_at row)) where
+  none-there : (class : Id) (above : Declaration) → Contains (filter (has_key (key_in row class)) rows) above → pair_above row above ≡ None
+  none-there class above there =
+      let passes = filter-passes (has_key (key_in row class)) rows above there in
+      let key : key_in row class ≡ key_of above.key =
+      key-order.same (key_in row class) (key_of above.key) (equal-is (key_cmp (key_in row class) (key_of above.key)) passes.1) in
+      let same = alone row above stands passes.0 (named (naming_at row) row refl) (named (naming_at row) above (ap naming_of key)) in
+      ap (λ b. cond b None (ordered_pair row.id above.id)) (eq-own row.method above.method same)
+
+  none-in : (class : Id) → overridden_in rows row class ≡ []
+  none-in class = by (id_eq class row.key.owner) where
+    by : (b : Bool) → cond b [] (filter_map (pair_above row) (filter (has_key (key_in row class)) rows)) ≡ []
+    by true = refl
+    by false = filter_map-none (pair_above row) (filter (has_key (key_in row class)) rows) (none-there class)
+
+  pub none-above : overridden_by program rows row ≡ []
+  none-above = flat_map-none (overridden_in rows row) (way program row.key.owner) none-in
+
+-- ---- those that are named so
+
+less-first : (a b : Ordering) → is_lt (ordering_then a b) ≡ false → is_lt a ≡ false
+less-first Less b is = is
+less-first Equal b is = refl
+less-first Greater b is = refl
+
+pub by_naming : (rows : List Declaration) → IsSorted methods_cmp rows
+    → IsSortedBy (λ x y. is_lt (naming_cmp (naming_at x) (naming_at y))) rows
+by_naming rows up k d low within =
+    less-first (naming_cmp (naming_at (get_or rows (k + 1) d)) (naming_at (get_or rows k d)))
+    (id_cmp (get_or rows (k + 1) d).method (get_or rows k d).method) (up k d low within)
+
+taken : {X : Type 0} (p : X → Bool) (xs : List X) (n : ℕ) → ((j : ℕ) (d : X) → j < n → j < length xs → p (get_or xs j d) ≡ true)
+    → ((j : ℕ) (d : X) → n ≤ j → j < length xs → p (get_or xs j d) ≡ false) → take_while p xs ≡ take n xs
+taken p [] zero before after = refl
+taken p [] (suc n) before after = refl
+taken p (x ∷ xs) zero before after =
+    take_while-cons p x xs ∙ ap (λ b. cond b (x ∷ take_while p xs) []) (after 0 x (omega arith) (omega arith))
+taken p (x ∷ xs) (suc n) before after =
+    take_while-cons p x xs ∙ ap (λ b. cond b (x ∷ take_while p xs) []) (before 0 x (omega arith) (omega arith))
+    ∙ ap (λ ys. x ∷ ys) (taken p xs n
+    (λ j d early within. before (suc j) d (omega (arith, early)) (omega (arith, within)))
+    (λ j d late within. after (suc j) d (omega (arith, late)) (omega (arith, within))))
+
+turned-eq : (a b : Naming) → is_eq (naming_cmp a b) ≡ is_eq (naming_cmp b a)
+turned-eq a b = ap is_eq (naming-order.total.antisymm a b) ∙ by (naming_cmp b a) where
+  by : (o : Ordering) → is_eq (ordering_reverse o) ≡ is_eq o
+  by Less = refl
+  by Equal = refl
+  by Greater = refl
+
+module _ (rows : List Declaration) (up : IsSorted methods_cmp rows) (k : Naming) (start : ℕ)
+    (first : IsPartitionPoint (λ r. is_lt (naming_cmp (naming_at r) k) ≡ true) (λ r. is_lt (naming_cmp (naming_at r) k) ≡ false) rows start)
+    (later : List Declaration) (is : later ≡ drop start rows) where
+  abbrev pub ties : Declaration → Bool
+  ties r = is_eq (naming_cmp (naming_at r) k)
+
+  inside : (j : ℕ) → j < length later → start + j < length rows
+  inside j within =
+      let long = ap (λ (ds : List Declaration). length ds) is in
+      omega (arith, within, long, length-drop start rows)
+
+  at : (j : ℕ) (d : Declaration) → get_or later j d ≡ get_or rows (start + j) d
+  at j d = ap (λ (ds : List Declaration). get_or ds j d) is ∙ get_or-drop start rows j d
+
+  pub ties-first : IsPartitionedBy ties later
+  ties-first i j d from within tie =
+      let far = sorted_far (λ x y. is_lt (naming_cmp (naming_at x) (naming_at y))) (ranks_by naming-order.total naming_at) rows
+      (by_naming rows up) (start + i) (start + j) d (omega (arith, from)) (inside j within) in
+      let same : naming_at (get_or rows (start + j) d) ≡ k = naming-order.same (naming_at (get_or rows (start + j) d)) k
+      (equal-is (naming_cmp (naming_at (get_or rows (start + j) d)) k) (sym (ap ties (at j d)) ∙ tie)) in
+      let here : k ≡ naming_at (get_or rows (start + i) d) =
+      between naming_cmp naming_at naming-order k (get_or rows (start + i) d) (get_or rows (start + j) d)
+      (first.1 (start + i) d (omega arith) (omega (arith, from, inside j within))) far (sym same) in
+      ap ties (at i d) ∙ turned-eq (naming_at (get_or rows (start + i) d)) k ∙ named k (get_or rows (start + i) d) here
+
+  pub group-is : (count : ℕ) → IsPartitionPoint (λ r. ties r ≡ true) (λ r. ties r ≡ false) later count
+      → take count later ≡ filter (has_naming k) rows
+  group-is count point = sym (
+      filter-from naming_cmp naming_at naming-order k rows (ascend naming_cmp naming_at naming-order rows (by_naming rows up)) start
+      (λ j d early within. first.0 j d (omega arith) early) (λ j d late within. first.1 j d late within)
+      ∙ ap (take_while (has_naming k)) (sym is)
+      ∙ taken (has_naming k) later count
+      (λ j d early within. turned-eq k (naming_at (get_or later j d)) ∙ point.0 j d (omega arith) early)
+      (λ j d late within. turned-eq k (naming_at (get_or later j d)) ∙ point.1 j d late within)
+      )
+
+-- ---- the first and the last of them tell of all
+
+module _ (rows : List Declaration) (up : IsSorted methods_cmp rows) (k : Naming) where
+  abbrev group : List Declaration
+  group = filter (has_naming k) rows
+
+  abbrev lesser : Declaration → Declaration → Bool
+  lesser x y = is_lt (methods_cmp x y)
+
+  weak : IsStrictWeakOrder lesser
+  weak = ranks_by methods_cmp-total (λ (d : Declaration). d)
+
+  group-up : IsSortedBy lesser group
+  group-up = IsSortedBy-filter lesser weak (has_naming k) rows up
+
+  naming-is : (row : Declaration) → Contains group row → k ≡ naming_at row
+  naming-is row stands = naming-order.same k (naming_at row)
+      (equal-is (naming_cmp k (naming_at row)) (filter-passes (has_naming k) rows row stands).1)
+
+  -- among them the order is that of methods
+  not-before : (x y : Declaration) → Contains group x → Contains group y → lesser x y ≡ false → id_cmp x.method y.method ≢ Less
+  not-before x y of-x of-y fails less = true≢false (sym (ap is_lt (λ i. ordering_then (tie i) (less i))) ∙ fails) where
+    tie : naming_cmp (naming_at x) (naming_at y) ≡ Equal
+    tie = ap (naming_cmp (naming_at x)) (sym (naming-is y of-y) ∙ naming-is x of-x) ∙ tied_itself naming-order.total (naming_at x)
+
+  -- where the first and the last are of one method all are
+  of-first : (f l : Declaration) → slice_get group 0 ≡ Some f → slice_get group (length group - 1) ≡ Some l → f.method ≡ l.method
+      → (a : Declaration) → Contains group a → a.method ≡ f.method
+  of-first f l at-f at-l same a of-a =
+      neither_less id_cmp (λ (id : Id). id) id-order a.method f.method
+      (not-before a f of-a (in_place group 0 f at-f)
+      ((λ i. lesser (sym of-a.2 i) (sym (get-within group 0 f a at-f).1 i))
+      ∙ sorted_far lesser weak group group-up 0 of-a.0 a (omega arith) of-a.1))
+      (λ less. not-before l a (in_place group (length group - 1) l at-l) of-a
+      ((λ i. lesser (sym (get-within group (length group - 1) l a at-l).1 i) (sym of-a.2 i))
+      ∙ sorted_far lesser weak group group-up of-a.0 (length group - 1) a (omega (arith, of-a.1)) (omega (arith, of-a.1)))
+      (ap (λ id. id_cmp id a.method) (sym same) ∙ less))
+
+  told-none : (o p : Option Declaration) → slice_get group 0 ≡ o → slice_get group (length group - 1) ≡ p → methods_differ o p ≡ false
+      → AreOfOneMethod rows k
+  told-none o p at-o at-p fails a b of-a of-b has-a has-b =
+      by (get-below group 0 (omega (arith, in-a.1))) (get-below group (length group - 1) (omega (arith, in-a.1))) where
+        in-a : Contains group a
+        in-a = filter-stands (has_naming k) rows a of-a has-a
+
+        in-b : Contains group b
+        in-b = filter-stands (has_naming k) rows b of-b has-b
+
+        opposite : (c : Bool) → not c ≡ false → c ≡ true
+        opposite true is = refl
+        opposite false is = absurd (true≢false is)
+
+        by : (f : Declaration) × (slice_get group 0 ≡ Some f) → (l : Declaration) × (slice_get group (length group - 1) ≡ Some l)
+            → a.method ≡ b.method
+        by f l =
+            let differ : not (id_eq f.0.method l.0.method) ≡ false =
+            (λ i. methods_differ ((sym f.1 ∙ at-o) i) ((sym l.1 ∙ at-p) i)) ∙ fails in
+            let same = eq-is f.0.method l.0.method (opposite (id_eq f.0.method l.0.method) differ) in
+            of-first f.0 l.0 f.1 l.1 same a in-a ∙ sym (of-first f.0 l.0 f.1 l.1 same b in-b)
+
+  told-all : (o p : Option Declaration) → slice_get group 0 ≡ o → slice_get group (length group - 1) ≡ p → AreOfOneMethod rows k
+      → methods_differ o p ≡ false
+  told-all None p at-o at-p alone = refl
+  told-all (Some f) None at-o at-p alone = refl
+  told-all (Some f) (Some l) at-f at-l alone =
+      let of-f = filter-passes (has_naming k) rows f (in_place group 0 f at-f) in
+      let of-l = filter-passes (has_naming k) rows l (in_place group (length group - 1) l at-l) in
+      ap not (eq-own f.method l.method (alone f l of-f.0 of-l.0 of-f.1 of-l.1))
+
+  pub rivals-told : (ds : List Declaration) → ds ≡ group → (b : Bool) → b ≡ methods_differ (slice_get ds 0) (slice_get ds (length ds - 1))
+      → IsFalse b ↔ AreOfOneMethod rows k
+  rivals-told ds is b told =
+      let whole : b ≡ methods_differ (slice_get group 0) (slice_get group (length group - 1)) =
+      told ∙ ap (λ (es : List Declaration). methods_differ (slice_get es 0) (slice_get es (length es - 1))) is in (
+        λ fails. told-none (slice_get group 0) (slice_get group (length group - 1)) refl refl (sym whole ∙ fails),
+        λ alone. whole ∙ told-all (slice_get group 0) (slice_get group (length group - 1)) refl refl alone,
+      )

@@ -1,0 +1,15 @@
+use Rattle.std.proofs.Common.{subst, List}
+use Rattle.std.specs.List.Sorted.{IsPermutation}
+use Rattle.mol_override_faults.specs.declared.declaration.Declaration.{Declaration}
+use Rattle.mol_override_faults.proofs.orders.orders_of.Goals as goal
+
+pub returns : goal.returns
+returns c = record {
+  each = c.in_ok-by_key.ensures.each;
+  sorted = record {
+    by_key = c.in_ok-by_key.ensures.sorted;
+    by_method = c.in_ok-by_method.ensures.sorted;
+    same = subst (λ (rows : List Declaration). IsPermutation rows c.in_ok-by_method.by_method.items) c.as_slice.ensures.value
+        c.in_ok-by_method.ensures.same;
+  };
+}

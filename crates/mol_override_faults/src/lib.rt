@@ -1,0 +1,14 @@
+//! Faults of declarations that would override one another.
+#![tactic(auto)]
+
+mod declaration;
+mod key;
+mod orders;
+mod overridden;
+mod override_faults;
+mod rivals;
+mod rows;
+mod superclass;
+mod way_up;
+
+pub use override_faults::false_override;

@@ -1,0 +1,46 @@
+//! Declarations that would override one another.
+ghost use Rattle.std.specs.Prelude.{◌≡◌, IfOk, map};
+ghost use Rattle.mol_fault.specs.Kept.{kept_fault};
+ghost use Rattle.mol_fault.specs.OfKind.{AreAllOfKind};
+ghost use Rattle.mol_override_faults.specs.Overridden.{override_fault};
+ghost use Rattle.mol_pair_faults.specs.Pairs.{ArePairsOf};
+ghost use Rattle.mol_spelling.specs.NameFaults.{FalseOverride};
+
+use crate::orders::orders_of;
+use crate::overridden::overridden;
+use mol_base::{List, OutOfMemory};
+use mol_fault::Fault;
+use mol_pair_faults::{Pair, in_order};
+use mol_table::Table;
+use std::alloc::Global;
+
+/// The faults of kind 1, ascending: pairs of living declarations of two methods that are no constructors, with equal names and numbers of
+/// parameters, in a class and an ancestor of it, so that one would override the other (JLS 8.4.8.1). The time is that of a few look-ups for
+/// each known identity, of sorting the declarations, of the faults, and, for each declaration whose name and number of parameters another
+/// method has too, of the ancestors of its class. `Err` is want of memory.
+pub fn false_override(alloc: Global, table: &Table) -> Result<List<Fault>, OutOfMemory>
+    ensures { IfOk result (λ faults. AreAllOfKind table.now 1 faults) }
+{
+    let unordered = override_pairs(alloc, table)?;
+    let pairs = in_order(unordered)?;
+    listed(alloc, pairs.as_slice())
+}
+
+/// The pairs of such declarations.
+fn override_pairs(alloc: Global, table: &Table) -> Result<Vec<Pair>, OutOfMemory>
+    ensures { IfOk result (λ pairs. ArePairsOf (FalseOverride table.now) pairs.items) }
+{
+    let orders = orders_of(alloc, table)?;
+    overridden(alloc, table, &orders)
+}
+
+/// The faults of these pairs.
+fn listed(alloc: Global, pairs: &[Pair]) -> Result<List<Fault>, OutOfMemory>
+    ensures { IfOk result (λ faults. map kept_fault faults ≡ map override_fault pairs.now) }
+{
+    let mut faults = List::new(alloc);
+    for pair in pairs {
+        faults.add(Fault::FalseOverride(pair.first, pair.second))?;
+    }
+    Ok(faults)
+}

@@ -1,0 +1,39 @@
+-- Pairs of classes, the second in a package that is the first or in it.
+use Rattle.std.specs.Prelude.{◌↔◌, List, [], filter_map, Contains, Option, Some, None, cond}
+use Rattle.std.specs.List.Sorted.{IsStrictlySortedBy}
+use Rattle.std.specs.Ordering.{on, then_cmp}
+use Rattle.std.specs.declared.cmp.Ordering.{Ordering}
+use Rattle.jav_view.specs.DottedNames.{Name}
+use Rattle.mol_base.specs.Order.{id_cmp}
+use Rattle.mol_base.specs.declared.ident.Id.{Id}
+use Rattle.mol_spelling.specs.FaultList.{Fault, package_is_class}
+use Rattle.mol_spelling.specs.NameFaults.{PackageIsClass}
+use Rattle.mol_table.specs.Program.{Program}
+use Rattle.mol_table.specs.Renumber.{is_living_class}
+use Rattle.mol_package_faults.specs.Packages.{begins, dotted_name}
+use Rattle.mol_package_faults.specs.declared.inside.Inside.{Inside}
+use Rattle.mol_package_faults.specs.declared.package_rows.PackageRow.{PackageRow}
+
+-- a class of this dotted name, and a class whose dotted package this begins
+abbrev pub inside_of : Id → Name → PackageRow → Option Inside
+inside_of class name row = cond (begins name row.dotted) (Some (record { class = class; inside = row.class })) None
+
+-- the pairs of a class, if it lives
+abbrev pub pairs_at : Program → List PackageRow → Id → List Inside
+pairs_at program rows id = cond (is_living_class program id) (filter_map (inside_of id (dotted_name program id)) rows) []
+
+-- These are all pairs of the program.
+abbrev pub HasPairs : Program → List Inside → Type 0
+HasPairs program pairs = (pair : Inside) → Contains pairs pair ↔ PackageIsClass program pair.class pair.inside
+
+-- by the first class, then by the second
+abbrev pub inside_cmp : Inside → Inside → Ordering
+inside_cmp = then_cmp (on (λ pair. pair.class) id_cmp) (on (λ pair. pair.inside) id_cmp)
+
+-- The same pairs in order, each once.
+pub record ArePairs (pairs ordered : List Inside) : Type 0 where
+  pub ascending : IsStrictlySortedBy inside_cmp ordered
+  pub same : (pair : Inside) → Contains ordered pair ↔ Contains pairs pair
+
+abbrev pub fault_of : Inside → Fault
+fault_of pair = package_is_class pair.class pair.inside

@@ -1,0 +1,4 @@
+pub mod Addresses
+pub mod MadeRows
+pub mod Pairs
+pub mod Sharing
