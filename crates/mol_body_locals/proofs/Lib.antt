@@ -1,0 +1,2 @@
+pub mod NamesDeclared
+pub mod Steps

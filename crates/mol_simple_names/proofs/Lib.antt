@@ -1,0 +1,3 @@
+pub mod ImportSets
+pub mod NamesLeft
+pub mod Shared
