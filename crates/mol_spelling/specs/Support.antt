@@ -1,4 +1,5 @@
--- The cells that a fault rests on: whether it is there can change only where one of them does.
+-- The cells that a fault rests on. One of them changes where it goes, but that a creation by a default constructor can become another one
+-- by the parameters of a constructor, which are not among them.
 use Rattle.std.specs.Prelude.{◌≡◌, ◌≢◌, ◌⊎◌, ℕ, IsTrue, List, [], ◌∷◌, ◌++◌, Some, Contains}
 use Rattle.std.specs.FinMap.{get}
 use Rattle.std.specs.List.Sorted.{IsStrictlySortedBy}
