@@ -56,6 +56,13 @@ impl<'a> BodyLocals<'a> {
         self.declared.get(number as usize).copied()
     }
 
+    /// The numbers of those in scope, the nearest last. It takes no memory.
+    pub fn in_scope(&self) -> &[usize]
+        ensures { result.now ≡ self.now.in_scope }
+    {
+        self.in_scope.as_slice()
+    }
+
     /// The names of those in scope. It takes no memory.
     pub fn names(&self) -> &ScopeNames<'a>
         ensures { result.now ≡ names_in_scope (locals_of self.now) }

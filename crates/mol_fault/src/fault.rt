@@ -10,17 +10,18 @@ pub enum Fault {
     SameAddress(Id, Id),
     /// Living declarations of two methods, one of which would override the other (JLS 8.4.8.1).
     FalseOverride(Id, Id),
-    /// A living method none of whose living declarations is in a class above all others.
+    /// A living method none of whose living declarations stands in a class that is, for each of them, its class or an ancestor of that.
     Apart(Id),
     /// A living method that has the name and the number of parameters of one of `Object` and had not when it was added, or the other way
     /// round.
     OutsideName(Id),
-    /// A cell of what lives that refers to what is gone.
+    /// A cell of what lives that, once tidied, refers to what is gone.
     Missing(Cell, Id),
     /// A reference of a cell, by its number from 0 in the order in which they print, that would read as something else than its target.
     Misread(Cell, u32, Target),
     /// A body, and a name that it declares twice where both are in scope (JLS 6.4).
     LocalClash(Cell, Text),
-    /// A class whose full name begins the package of another or is it, and that other class (JLS 7.1).
+    /// A class whose full name is the package of another one, or whose full name and a dot begin that package, and that other class
+    /// (JLS 7.1).
     PackageIsClass(Id, Id),
 }

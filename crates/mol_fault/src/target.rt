@@ -10,6 +10,6 @@ pub enum Target {
     Default(Id),
     /// A local of the body, by its number from 0 in the order of declaration.
     Local(u32),
-    /// What is outside, by its full name.
+    /// What is outside, by its text: of an imported type its full name and what follows it, else as it is written, `super` or `[]`.
     Outside(Text),
 }

@@ -1,1 +1,2 @@
+pub mod ApartMethods
 pub mod OutsideNames

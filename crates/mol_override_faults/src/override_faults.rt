@@ -10,7 +10,8 @@ use crate::orders::orders_of;
 use crate::overridden::overridden;
 use mol_base::{List, OutOfMemory};
 use mol_fault::Fault;
-use mol_pair_faults::{Pair, in_order};
+use mol_ordered::in_order;
+use mol_pair_faults::Pair;
 use mol_table::Table;
 use std::alloc::Global;
 
@@ -22,7 +23,7 @@ pub fn false_override(alloc: Global, table: &Table) -> Result<List<Fault>, OutOf
     ensures { IfOk result (λ faults. AreAllOfKind table.now 1 faults) }
 {
     let unordered = override_pairs(alloc, table)?;
-    let pairs = in_order(unordered)?;
+    let pairs = in_order(unordered);
     listed(alloc, pairs.as_slice())
 }
 

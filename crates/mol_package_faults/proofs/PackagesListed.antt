@@ -1,10 +1,8 @@
 -- The faults of packages are the pairs in order.
-use Rattle.std.proofs.Common.{◌≡◌, ℕ, rules, List, [], ◌∷◌, map, Contains, refl, subst, arith, Ordering, Less, Equal, Greater}
-use Rattle.std.specs.Cmp.{IsTotalOrder}
-use Rattle.std.specs.Cmp.Rules.{comparing}
+use Rattle.std.proofs.Common.{◌≡◌, ◌↔◌, ℕ, List, [], ◌∷◌, map, Contains, refl, subst, arith, Ordering, Less, Equal, Greater}
 use Rattle.std.specs.List.{AllByRecursion}
 use Rattle.std.specs.List.Sorted.{IsStrictlySortedBy}
-use Rattle.std.specs.Ordering.{ordering_then}
+use Rattle.std.specs.Ordering.{on, ordering_then, then_cmp}
 use Rattle.jav_view.proofs.Lists.{stands-mapped}
 use Rattle.mol_base.specs.Order.{id_cmp}
 use Rattle.mol_fault.specs.OfKind.{AreOfKind}
@@ -14,11 +12,8 @@ use Rattle.mol_spelling.specs.FaultList.{Fault, misread, fault_target, IsFault, 
 use Rattle.mol_spelling.specs.NameFaults.{PackageIsClass}
 use Rattle.mol_table.specs.Program.{Program}
 use Rattle.mol_values.specs.declared.cell.Cell.{Cell}
-use Rattle.mol_package_faults.specs.Pairs.{HasPairs, inside_cmp, ArePairs, fault_of}
+use Rattle.mol_package_faults.specs.Pairs.{HasPairs, fault_of}
 use Rattle.mol_package_faults.specs.declared.inside.Inside.{Inside}
-
-pub inside_cmp-total : IsTotalOrder inside_cmp
-inside_cmp-total = search (comparing, rules) depth 9
 
 misread-kind : (at : Cell) (number : ℕ) (target : Target) → (fault_key (misread at number (fault_target target))).kind ≡ 5
 misread-kind at number (class_target class) = refl
@@ -30,6 +25,10 @@ misread-kind at number (local_target local) = refl
 misread-kind at number (outside_target text) = refl
 
 -- ---- the order
+
+-- by the first class, then by the second
+abbrev pub inside_cmp : Inside → Inside → Ordering
+inside_cmp = then_cmp (on (λ pair. pair.class) id_cmp) (on (λ pair. pair.inside) id_cmp)
 
 -- faults go as their pairs
 same-order : (first second : Inside) → inside_cmp first second ≡ Less → fault_cmp (fault_of first) (fault_of second) ≡ Less
@@ -54,11 +53,12 @@ ascends (pair ∷ pairs) up = (all-after pair pairs up.0, ascends pairs up.1)
 
 -- ---- the faults
 
-module _ (program : Program) (pairs ordered : List Inside) (has : HasPairs program pairs) (are : ArePairs pairs ordered) where
+module _ (program : Program) (pairs ordered : List Inside) (has : HasPairs program pairs)
+    (ascending : IsStrictlySortedBy inside_cmp ordered) (same : (pair : Inside) → Contains ordered pair ↔ Contains pairs pair) where
   whose : (fault : Fault) → IsFault program fault → (fault_key fault).kind ≡ 7
       → (pair : Inside) × (fault_of pair ≡ fault) × PackageIsClass program pair.class pair.inside
   whose fault (by_package {class = class} {inside = inside} is) kind = (record { class = class; inside = inside }, refl, is)
-  whose fault (by_address same) kind = absurd (omega (arith, kind))
+  whose fault (by_address shared) kind = absurd (omega (arith, kind))
   whose fault (by_override override) kind = absurd (omega (arith, kind))
   whose fault (by_place apart) kind = absurd (omega (arith, kind))
   whose fault (by_outside_name outside) kind = absurd (omega (arith, kind))
@@ -69,12 +69,12 @@ module _ (program : Program) (pairs ordered : List Inside) (has : HasPairs progr
 
   pub packages-listed : AreOfKind program 7 (map fault_of ordered)
   packages-listed = record {
-    ascending = ascends ordered are.ascending;
+    ascending = ascends ordered ascending;
     each = λ fault. (
       λ stands. let from = from_map fault_of ordered fault stands in
           subst (λ (f : Fault). IsFault program f × ((fault_key f).kind ≡ 7)) from.2
-          (by_package ((has from.0).0 ((are.same from.0).0 from.1)), refl),
+          (by_package ((has from.0).0 ((same from.0).0 from.1)), refl),
       λ is. let of = whose fault is.0 is.1 in
-          subst (Contains (map fault_of ordered)) of.1 (stands-mapped fault_of ordered of.0 ((are.same of.0).1 ((has of.0).1 of.2))),
+          subst (Contains (map fault_of ordered)) of.1 (stands-mapped fault_of ordered of.0 ((same of.0).1 ((has of.0).1 of.2))),
     );
   }

@@ -1,10 +1,6 @@
 -- Pairs of classes, the second in a package that is the first or in it.
 use Rattle.std.specs.Prelude.{◌↔◌, List, [], filter_map, Contains, Option, Some, None, cond}
-use Rattle.std.specs.List.Sorted.{IsStrictlySortedBy}
-use Rattle.std.specs.Ordering.{on, then_cmp}
-use Rattle.std.specs.declared.cmp.Ordering.{Ordering}
 use Rattle.jav_view.specs.DottedNames.{Name}
-use Rattle.mol_base.specs.Order.{id_cmp}
 use Rattle.mol_base.specs.declared.ident.Id.{Id}
 use Rattle.mol_spelling.specs.FaultList.{Fault, package_is_class}
 use Rattle.mol_spelling.specs.NameFaults.{PackageIsClass}
@@ -25,15 +21,6 @@ pairs_at program rows id = cond (is_living_class program id) (filter_map (inside
 -- These are all pairs of the program.
 abbrev pub HasPairs : Program → List Inside → Type 0
 HasPairs program pairs = (pair : Inside) → Contains pairs pair ↔ PackageIsClass program pair.class pair.inside
-
--- by the first class, then by the second
-abbrev pub inside_cmp : Inside → Inside → Ordering
-inside_cmp = then_cmp (on (λ pair. pair.class) id_cmp) (on (λ pair. pair.inside) id_cmp)
-
--- The same pairs in order, each once.
-pub record ArePairs (pairs ordered : List Inside) : Type 0 where
-  pub ascending : IsStrictlySortedBy inside_cmp ordered
-  pub same : (pair : Inside) → Contains ordered pair ↔ Contains pairs pair
 
 abbrev pub fault_of : Inside → Fault
 fault_of pair = package_is_class pair.class pair.inside

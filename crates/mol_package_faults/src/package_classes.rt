@@ -2,12 +2,13 @@
 ghost use Rattle.std.specs.Prelude.{◌≡◌, IfOk, map};
 ghost use Rattle.mol_fault.specs.Kept.{kept_fault};
 ghost use Rattle.mol_fault.specs.OfKind.{AreAllOfKind};
-ghost use Rattle.mol_package_faults.specs.Pairs.{ArePairs, HasPairs, fault_of};
+ghost use Rattle.mol_package_faults.specs.Pairs.{fault_of};
 
 use crate::inside::{Inside, pairs};
 use crate::package_rows::package_rows;
 use mol_base::{List, OutOfMemory};
 use mol_fault::Fault;
+use mol_ordered::in_order;
 use mol_table::Table;
 use std::alloc::Global;
 
@@ -20,15 +21,6 @@ pub fn package_is_class(alloc: Global, table: &Table) -> Result<List<Fault>, Out
     let rows = package_rows(alloc, table)?;
     let found = pairs(alloc, table, rows.as_slice())?;
     faults_of(alloc, in_order(found))
-}
-
-/// The pairs in order, each once.
-fn in_order(mut pairs: Vec<Inside>) -> Vec<Inside>
-    ensures { ArePairs pairs.items result.items }
-{
-    pairs.sort_unstable();
-    pairs.dedup();
-    pairs
 }
 
 /// The faults that pairs are.

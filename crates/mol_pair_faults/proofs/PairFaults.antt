@@ -2,14 +2,14 @@
 use Rattle.std.proofs.Common.{◌≡◌, ℕ, List, [], ◌∷◌, map, Contains, refl, sym, ◌∙◌, ap, subst, Ordering, Less, Equal, Greater}
 use Rattle.std.specs.List.{AllByRecursion}
 use Rattle.std.specs.List.Sorted.{IsStrictlySortedBy}
-use Rattle.std.specs.Ordering.{ordering_then}
+use Rattle.std.specs.Ordering.{on, ordering_then, then_cmp}
 use Rattle.std.specs.Prelude.{◌↔◌}
 use Rattle.std.proofs.lemmas.Cmp.{nat_cmp_total, tied_itself}
 use Rattle.jav_view.proofs.Lists.{stands-mapped}
 use Rattle.mol_base.specs.Order.{id_cmp}
 use Rattle.mol_base.specs.declared.ident.Id.{Id}
 use Rattle.mol_fault.specs.OfKind.{AreOfKind}
-use Rattle.mol_pair_faults.specs.Pairs.{pair_cmp, ArePairsOf}
+use Rattle.mol_pair_faults.specs.Pairs.{ArePairsOf}
 use Rattle.mol_pair_faults.specs.declared.pair.Pair.{Pair}
 use Rattle.mol_spell.proofs.Stands.{from_map}
 use Rattle.mol_spelling.specs.FaultList.{Fault, FaultKey, IsFault, fault_key, fault_key_cmp, fault_cmp, pair_key}
@@ -21,6 +21,10 @@ then-less Equal Less is = refl
 then-less Equal Equal is = absurd cc
 then-less Equal Greater is = absurd cc
 then-less Greater second is = absurd cc
+
+-- the order of pairs, as the code has it
+abbrev pub pair_cmp : Pair → Pair → Ordering
+pair_cmp = then_cmp (on (λ pair. pair.first) id_cmp) (on (λ pair. pair.second) id_cmp)
 
 pair-keys : (kind : ℕ) (x y : Pair) → pair_cmp x y ≡ Less
     → fault_key_cmp (pair_key kind x.first x.second) (pair_key kind y.first y.second) ≡ Less

@@ -1,45 +1,28 @@
--- Pairs of identities: how two identities make one, and the order of pairs.
-use Rattle.std.proofs.Common.{◌≡◌, ◌⊎◌, inl, inr, Bool, true, Some, refl, sym, ◌∙◌, ap, subst, rules, Ordering, Less, Equal, Greater}
-use Rattle.std.specs.Cmp.{IsTotalOrder, IsEquivalence, eq_by_cmp_equiv}
-use Rattle.std.specs.Cmp.Rules.{comparing}
-use Rattle.std.specs.FinMap.{IsAntisymmetric}
-use Rattle.std.specs.Ordering.{eq_by_cmp, ordering_reverse}
-use Rattle.std.proofs.lemmas.Cmp.{on_total, then_total}
+-- Pairs of identities: those that `==` takes for equal, and how two identities make one.
+use Rattle.std.proofs.Common.{◌≡◌, ◌⊎◌, inl, inr, Bool, true, Some, refl, sym, ◌∙◌, ap, subst, Ordering, Less, Equal, Greater}
+use Rattle.std.specs.Ordering.{ordering_reverse}
+use Rattle.std.proofs.lemmas.Bool.{and_parts}
 use Rattle.std.proofs.lemmas.Option.{same_Some}
-use Rattle.jav_index.proofs.Searched.{equal-is}
-use Rattle.mol_base.specs.Order.{id_cmp, id_cmp-total, id_cmp-IsAntisymmetric}
+use Rattle.mol_base.specs.Order.{id_cmp, id_cmp-total}
 use Rattle.mol_base.specs.declared.ident.Id.{Id}
-use Rattle.mol_pair_faults.specs.Pairs.{pair_cmp, pair_by, ordered_pair}
+use Rattle.mol_table.proofs.Living.{id_tied}
+use Rattle.mol_values.proofs.Ties.{id_ties}
+use Rattle.mol_values.specs.Order.{id_eq}
+use Rattle.mol_pair_faults.specs.Pairs.{pair_by, ordered_pair}
 use Rattle.mol_pair_faults.specs.contracts.pair.PairPartialEq as pairs
 use Rattle.mol_pair_faults.specs.declared.pair.Pair.{Pair}
-use Rattle.mol_pair_faults.proofs.Keys.{then_both}
 
--- ---- the order
+-- ---- equal pairs
 
-pub pair_cmp-total : IsTotalOrder pair_cmp
-pair_cmp-total = then_total (on_total (λ (p : Pair). p.first) id_cmp-total) (on_total (λ (p : Pair). p.second) id_cmp-total)
-
-pub pair_cmp-IsAntisymmetric : IsAntisymmetric pair_cmp
-pair_cmp-IsAntisymmetric x y e =
-    let parts = then_both _ _ e in
-    let first = id_cmp-IsAntisymmetric x.first y.first parts.0 in
-    let second = id_cmp-IsAntisymmetric x.second y.second parts.1 in
-    λ i. record { first = first i; second = second i }
-
-abbrev pub pair_eq : Pair → Pair → Bool
+abbrev pair_eq : Pair → Pair → Bool
 pair_eq = pairs.TheImpl.eq-value.it
 
-pub pair_ties : (x y : Pair) → pair_eq x y ≡ eq_by_cmp pair_cmp x y
-pair_ties = search (comparing, rules) depth 9
-
 pub pair_same : (x y : Pair) → pair_eq x y ≡ true → x ≡ y
-pair_same x y same = pair_cmp-IsAntisymmetric x y (equal-is (pair_cmp x y) (sym (pair_ties x y) ∙ same))
-
-eq-is : pair_eq ≡ eq_by_cmp pair_cmp
-eq-is = λ i x y. pair_ties x y i
-
-pub pair_eq-equiv : IsEquivalence pair_eq
-pair_eq-equiv = subst IsEquivalence (sym eq-is) (eq_by_cmp_equiv pair_cmp-total)
+pair_same x y is =
+    let both = and_parts (id_eq x.first y.first) (id_eq x.second y.second) is in
+    let first = id_tied x.first y.first (sym (id_ties x.first y.first) ∙ both.0) in
+    let second = id_tied x.second y.second (sym (id_ties x.second y.second) ∙ both.1) in
+    λ i. record { first = first i; second = second i }
 
 -- ---- the pair of two identities
 

@@ -1,14 +1,10 @@
--- Pairs of identities, and their order.
+-- Pairs of identities.
 use Rattle.std.specs.Prelude.{◌↔◌, List, Option, None, Some, Contains}
-use Rattle.std.specs.Ordering.{on, then_cmp}
 use Rattle.std.specs.declared.cmp.Ordering.{Ordering}
 use Rattle.std.specs.declared.cmp.Ordering.TheVariants.{Less, Equal, Greater}
 use Rattle.mol_base.specs.Order.{id_cmp}
 use Rattle.mol_base.specs.declared.ident.Id.{Id}
 use Rattle.mol_pair_faults.specs.declared.pair.Pair.{Pair}
-
-abbrev pub pair_cmp : Pair → Pair → Ordering
-pair_cmp = then_cmp (on (λ pair. pair.first) id_cmp) (on (λ pair. pair.second) id_cmp)
 
 abbrev pub pair_by : Ordering → Id → Id → Option Pair
 pair_by Less former latter = Some (record { first = former; second = latter })

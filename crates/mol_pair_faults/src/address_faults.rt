@@ -7,10 +7,11 @@ ghost use Rattle.mol_pair_faults.specs.Sharing.{address_fault};
 ghost use Rattle.mol_table.specs.Faults.{SameAddress};
 
 use crate::addressed::by_address;
-use crate::pair::{Pair, in_order};
+use crate::pair::Pair;
 use crate::sharing::sharing;
 use mol_base::{List, OutOfMemory};
 use mol_fault::Fault;
+use mol_ordered::in_order;
 use mol_table::Table;
 use std::alloc::Global;
 
@@ -21,7 +22,7 @@ pub fn same_address(alloc: Global, table: &Table) -> Result<List<Fault>, OutOfMe
     ensures { IfOk result (λ faults. AreAllOfKind table.now 0 faults) }
 {
     let unordered = address_pairs(alloc, table)?;
-    let pairs = in_order(unordered)?;
+    let pairs = in_order(unordered);
     listed(alloc, pairs.as_slice())
 }
 

@@ -10,4 +10,4 @@ mod pair;
 mod sharing;
 
 pub use address_faults::same_address;
-pub use pair::{Pair, add_pair, in_order, ordered};
+pub use pair::{Pair, add_pair, ordered};

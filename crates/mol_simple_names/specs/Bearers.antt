@@ -27,7 +27,7 @@ may_be (Some (Some bearer)) what = same_importable (importable_of bearer) what
 abbrev pub leaves_name : Program → Importable → Use → Bool
 leaves_name program what used = not (begins_written (simple_of program what) used) && is_no_rival program what used
 
--- The map has the simple names of what is used: a name is for what it may be for without a class near by.
+-- The map answers as the rule does where no class near by has the name: whether a class or an imported type may have its simple name.
 abbrev pub AreBearers : Program → List Use → Bearers → Type 0
 AreBearers program uses bearers =
     (what : Importable) → may_be (bearer_at bearers (simple_of program what)) what ≡ is_simple_beside program uses what None

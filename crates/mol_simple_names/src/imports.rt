@@ -39,6 +39,7 @@ impl SimpleNames<'_> {
         ensures { IfOk result (λ set. set.keys ≡ imports_of_file self.now) }
     {
         let mut set = BTreeSet::new(alloc);
+        // A set does not depend on the order; from the last use on each step adds what stands before the uses that were met.
         for at in (0..self.uses.len()).rev() {
             let import = self.import_of(alloc, &self.uses[at])?;
             insert(&mut set, import)?;

@@ -1,5 +1,6 @@
--- The cells that a fault rests on. One of them changes where it goes, but that a creation by a default constructor can become another one
--- by the parameters of a constructor, which are not among them.
+-- The cells that a fault rests on: those that its condition looks at first, so that the operations that last wrote them are told with it.
+-- They need not be all that it can go by. A creation by a default constructor, for one, becomes another one also by the parameters of a
+-- constructor and by where that stands, and a name reads as something else also by what is added beside it.
 use Rattle.std.specs.Prelude.{◌≡◌, ◌≢◌, ◌⊎◌, ℕ, IsTrue, List, [], ◌∷◌, ◌++◌, Some, Contains}
 use Rattle.std.specs.FinMap.{get}
 use Rattle.std.specs.List.Sorted.{IsStrictlySortedBy}

@@ -6,19 +6,23 @@ use Rattle.mol_pair_faults.specs.Pairs.{ArePairsOf}
 use Rattle.mol_override_faults.specs.Overridden.{override_fault}
 use Rattle.mol_override_faults.proofs.OverrideFaults.{override-made}
 use Rattle.mol_pair_faults.proofs.PairFaults.{pair-faults}
+use Rattle.mol_pair_faults.proofs.PairsOrdered.{pair_same}
 use Rattle.mol_override_faults.proofs.override_faults.false_override.Goals as goal
 use Rattle.mol_spelling.specs.NameFaults.{FalseOverride}
+
+pub in_order-pairs-requires : goal.in_order-pairs-requires
+in_order-pairs-requires c = pair_same
 
 pub returns : goal.returns
 returns c =
     let program = c.args.table.now in
-    let pairs = c.in_ok-pairs.pairs.items in
+    let pairs = c.in_order-pairs.result.items in
     let are : ArePairsOf (FalseOverride program) pairs = λ pair. (
-      λ stands. (c.in_ok-unordered.ensures pair).0 ((c.in_ok-pairs.ensures.same pair).0 stands),
-      λ shared. (c.in_ok-pairs.ensures.same pair).1 ((c.in_ok-unordered.ensures pair).1 shared),
+      λ stands. (c.in_ok-unordered.ensures pair).0 ((c.in_order-pairs.ensures.same pair).0 stands),
+      λ shared. (c.in_order-pairs.ensures.same pair).1 ((c.in_ok-unordered.ensures pair).1 shared),
     ) in
     IfOk-weaker c.listed.result (λ faults. map kept_fault faults ≡ map override_fault c.as_slice.result.now)
     (λ faults. AreAllOfKind program 1 faults)
     (λ faults is. subst (AreOfKind program 1) (sym (is ∙ ap (map override_fault) c.as_slice.ensures.value))
-    (pair-faults program 1 (FalseOverride program) override_fault (override-made program) pairs c.in_ok-pairs.ensures.ascending are))
+    (pair-faults program 1 (FalseOverride program) override_fault (override-made program) pairs c.in_order-pairs.ensures.ascending are))
     c.listed.ensures

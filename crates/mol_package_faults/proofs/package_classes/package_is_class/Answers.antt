@@ -9,6 +9,7 @@ use Rattle.mol_package_faults.specs.Pairs.{fault_of}
 use Rattle.mol_package_faults.specs.declared.inside.Inside.{Inside}
 use Rattle.mol_package_faults.specs.declared.package_rows.PackageRow.{PackageRow}
 use Rattle.mol_package_faults.proofs.PackagesListed.{packages-listed}
+use Rattle.mol_package_faults.proofs.PairsOrdered.{inside-same}
 use Rattle.mol_package_faults.proofs.package_classes.package_is_class.Goals as goal
 
 if-ok : {A E : Type 0} (r : Result A E) (P Q : A → Type 0) → ((x : A) → P x → Q x) → IfOk r P → IfOk r Q
@@ -23,6 +24,9 @@ pub pairs-requires-clause-rows : goal.pairs-requires-clause-rows
 pairs-requires-clause-rows c =
     subst (HasRows c.args.table.now) (sym c.as_slice.ensures.value) c.in_ok-rows.ensures.rows
 
+pub in_order-requires : goal.in_order-requires
+in_order-requires c = inside-same
+
 pub returns : goal.returns
 returns c =
     let program = c.args.table.now in
@@ -30,5 +34,6 @@ returns c =
     let ordered : List Inside = c.in_order.result.items in
     if-ok c.faults_of.result (λ (faults : List Kept). map kept_fault faults ≡ map fault_of ordered)
     (λ (faults : List Kept). AreOfKind program 7 (map kept_fault faults))
-    (λ faults is. subst (AreOfKind program 7) (sym is) (packages-listed program found ordered c.in_ok-found.ensures c.in_order.ensures))
+    (λ faults is. subst (AreOfKind program 7) (sym is) (packages-listed program found ordered c.in_ok-found.ensures
+    c.in_order.ensures.ascending c.in_order.ensures.same))
     c.faults_of.ensures

@@ -6,19 +6,23 @@ use Rattle.mol_pair_faults.specs.Pairs.{ArePairsOf}
 use Rattle.mol_pair_faults.specs.Sharing.{address_fault}
 use Rattle.mol_pair_faults.proofs.AddressFaults.{address-made}
 use Rattle.mol_pair_faults.proofs.PairFaults.{pair-faults}
+use Rattle.mol_pair_faults.proofs.PairsOrdered.{pair_same}
 use Rattle.mol_pair_faults.proofs.address_faults.same_address.Goals as goal
 use Rattle.mol_table.specs.Faults.{SameAddress}
+
+pub in_order-pairs-requires : goal.in_order-pairs-requires
+in_order-pairs-requires c = pair_same
 
 pub returns : goal.returns
 returns c =
     let program = c.args.table.now in
-    let pairs = c.in_ok-pairs.pairs.items in
+    let pairs = c.in_order-pairs.result.items in
     let are : ArePairsOf (SameAddress program) pairs = λ pair. (
-      λ stands. (c.in_ok-unordered.ensures pair).0 ((c.in_ok-pairs.ensures.same pair).0 stands),
-      λ shared. (c.in_ok-pairs.ensures.same pair).1 ((c.in_ok-unordered.ensures pair).1 shared),
+      λ stands. (c.in_ok-unordered.ensures pair).0 ((c.in_order-pairs.ensures.same pair).0 stands),
+      λ shared. (c.in_order-pairs.ensures.same pair).1 ((c.in_ok-unordered.ensures pair).1 shared),
     ) in
     IfOk-weaker c.listed.result (λ faults. map kept_fault faults ≡ map address_fault c.as_slice.result.now)
     (λ faults. AreAllOfKind program 0 faults)
     (λ faults is. subst (AreOfKind program 0) (sym (is ∙ ap (map address_fault) c.as_slice.ensures.value))
-    (pair-faults program 0 (SameAddress program) address_fault (address-made program) pairs c.in_ok-pairs.ensures.ascending are))
+    (pair-faults program 0 (SameAddress program) address_fault (address-made program) pairs c.in_order-pairs.ensures.ascending are))
     c.listed.ensures

@@ -1,0 +1,6 @@
+pub mod Declared
+pub mod InTurn
+pub mod Looped
+pub mod Noting
+pub mod StatementNodes
+pub mod ValueParts

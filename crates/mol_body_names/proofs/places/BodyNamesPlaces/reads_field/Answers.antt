@@ -1,0 +1,19 @@
+use Rattle.std.proofs.Common.{◌∙◌, ap}
+use Rattle.jav_view.specs.LookUps.{variable}
+use Rattle.mol_body_locals.specs.Kept.{locals_of}
+use Rattle.mol_body_names.proofs.FoundHere.{field-found}
+use Rattle.mol_body_names.proofs.places.BodyNamesPlaces.reads_field.Goals as goal
+use Rattle.mol_body_names.specs.FilePlaces.{reader_in}
+use Rattle.mol_body_names.specs.FoundAs.{is_field_found}
+use Rattle.mol_spell.specs.Readers.{place_of}
+use Rattle.mol_spelling.specs.SpelledExpressions.{is_field}
+use Rattle.mol_table.specs.Program.{Program, name_at}
+
+pub returns : goal.returns
+returns g c =
+    let place = c.args.self.now in
+    let field = c.args.field.now in
+    let reader = reader_in place.members.now (g.F.FileNames.imports place.file.now) place.class place.method in
+    c.is_field.ensures ∙ ap (is_field_found field) c.variable.ensures ∙ field-found field _
+    ∙ ap (λ name. is_field field (variable reader.view (place_of reader (locals_of c.args.locals.now)) name))
+    (c.name_of-name.ensures ∙ ap (λ (program : Program). name_at program field) c.table.ensures)

@@ -1,0 +1,12 @@
+use Rattle.std.proofs.Common.{◌∙◌}
+use Rattle.mol_body_names.proofs.FoundHere.{method-read}
+use Rattle.mol_body_names.proofs.places.BodyNamesPlaces.reads_method.Goals as goal
+use Rattle.mol_body_names.specs.FoundAs.{is_method_found}
+
+pub returns : goal.returns
+returns g c =
+    let place = c.args.self.now in
+    let method = c.args.method.now in
+    c.method_is.ensures ∙ (λ i. is_method_found (c.table.ensures i) method (c.method_found-found.ensures i))
+    ∙ method-read place.members.now (g.F.FileNames.imports place.file.now) (g.F.FileNames.simple place.file.now) place.class place.method
+    method c.args.arity

@@ -1,0 +1,58 @@
+//! What is asked where bodies of a table are written.
+use crate::body_names::BodyNames;
+use crate::file_names::FileNames;
+use crate::methods::{method_found, method_is};
+use crate::params::present_param;
+use crate::variables::{is_field, is_found};
+use mol_base::Id;
+use mol_body_locals::BodyLocals;
+use mol_body_places::Places;
+use mol_cells::{name_of, owner_of, package_of};
+use mol_written::Importable;
+
+impl<F: FileNames> Places for BodyNames<'_, F> {
+    ghost use Rattle.mol_body_names.specs.FilePlaces.{writer_of};
+
+    ghost writer = { λ names. writer_of names.members.now (F.imports names.file.now) (F.simple names.file.now) names.class names.method };
+
+    fn name_of(&self, id: &Id) -> &str {
+        name_of(self.members.table(), id)
+    }
+
+    fn package_of(&self, class: &Id) -> &str {
+        package_of(self.members.table(), class)
+    }
+
+    fn param_name(&self, id: &Id) -> &str {
+        match present_param(self.members.table(), id) {
+            Some(param) => param.name.as_str(),
+            None => "$",
+        }
+    }
+
+    fn owner_of(&self, field: &Id) -> Option<Id> {
+        owner_of(self.members.table(), field)
+    }
+
+    fn declaring_class(&self, method: &Id) -> Option<Id> {
+        self.members.declaring_class(method)
+    }
+
+    fn is_simple(&self, what: Importable<'_>) -> bool {
+        self.file.is_simple(what)
+    }
+
+    fn is_variable(&self, locals: &BodyLocals<'_>, name: &str) -> bool {
+        is_found(&self.variable(locals, name))
+    }
+
+    fn reads_field(&self, locals: &BodyLocals<'_>, field: &Id) -> bool {
+        let name = name_of(self.members.table(), field);
+        is_field(field, &self.variable(locals, name))
+    }
+
+    fn reads_method(&self, method: &Id, arity: u32) -> bool {
+        let found = method_found(self.alloc, self.members, &self.class, method, arity);
+        method_is(self.members.table(), method, &found)
+    }
+}

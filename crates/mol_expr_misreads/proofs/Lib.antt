@@ -1,0 +1,9 @@
+pub mod CutNames
+pub mod FollowersKept
+pub mod ModeFree
+pub mod Nodes
+pub mod NotedMore
+pub mod ReadHere
+pub mod SimpleNames
+pub mod TypeNames
+pub mod VariableModes

@@ -1,0 +1,57 @@
+-- What is read at the place where it is written.
+use Rattle.std.proofs.Common.{◌≡◌, ℕ, Bool, true, false, [], Option, None, Some, refl, sym, ◌∙◌, ap, slice_get, if◌then◌else◌}
+use Rattle.std.proofs.lemmas.Option.{slice_get-map}
+use Rattle.std.specs.Option.{option_map, option_map_or}
+use Rattle.jav_view.proofs.CutNames.{names_cut}
+use Rattle.jav_view.specs.DottedNames.{cut}
+use Rattle.jav_view.specs.OnValues.{StaticType, mixed_value}
+use Rattle.jav_view.specs.StaticTypes.{of_type}
+use Rattle.mol_asked.specs.Answers.{is_answer}
+use Rattle.mol_asked.specs.Places.{reader_of}
+use Rattle.mol_asked.specs.declared.place.NamePlace.{NamePlace}
+use Rattle.mol_base.specs.declared.ident.Id.{Id}
+use Rattle.mol_body_locals.specs.Kept.{Kept, local_of}
+use Rattle.mol_body_locals.specs.declared.body_local.BodyLocal.{BodyLocal}
+use Rattle.mol_expr_misreads.specs.Names.{local_value}
+use Rattle.mol_expr_misreads.specs.Paths.{names_of}
+use Rattle.mol_expr_misreads.specs.Places.{AreReadAt}
+use Rattle.mol_expr_misreads.specs.declared.spelled.Spelled.{Spelled}
+use Rattle.mol_references.specs.References.{Target}
+use Rattle.mol_spell.specs.Locals.{Local, Locals}
+use Rattle.mol_spell.specs.ProgramViews.{seen}
+use Rattle.mol_spell.specs.Readers.{Reader}
+use Rattle.mol_spelling.specs.Answers.{answer}
+use Rattle.mol_spelling.specs.Writers.{Asked, Writer, text_of}
+
+module _ (writer : Writer) (locals : Locals Id) (place : NamePlace) (kept : Kept) (at : AreReadAt writer locals place kept) where
+  -- what reads as its target at the place does so where it is written
+  pub reads-so : (given target : Target) (reads : Bool) (around : Locals Id) (asked shown : Asked)
+      → reads ≡ is_answer given (answer (reader_of place) around asked) → given ≡ target → asked ≡ shown
+      → reads ≡ is_answer target (answer writer.reader around shown)
+  reads-so given target reads around asked shown is named same =
+      is ∙ (λ i. is_answer (named i) (answer (sym at.reader i) around (same i)))
+
+  pub class-is : place.variables.class ≡ writer.reader.class
+  class-is = sym (ap (λ (reader : Reader Id Id). reader.class) at.reader)
+
+  -- the static type of a local, if there is one of this number
+  pub local-is : (number : ℕ) (local : Option BodyLocal) → local ≡ slice_get kept.declared number
+      → option_map_or (λ (local : BodyLocal). of_type (seen local.ty.now)) local mixed_value ≡ local_value writer locals number
+  local-is number local is = by local ∙ ap found (ap (option_map local_of) is ∙ sym (slice_get-map local_of kept.declared number)
+      ∙ ap (λ (locals : Locals Id). slice_get locals.declared number) (sym at.locals_are))
+      ∙ ap (λ type. option_map_or (λ type. of_type type) type mixed_value)
+      (sym (slice_get-map (λ (local : Local Id). local.type) locals.declared number)) where
+        found : Option (Local Id) → StaticType Id
+        found local = option_map_or (λ type. of_type type) (option_map (λ (local : Local Id). local.type) local) mixed_value
+
+        by : (local : Option BodyLocal) → option_map_or (λ (local : BodyLocal). of_type (seen local.ty.now)) local mixed_value
+            ≡ found (option_map local_of local)
+        by None = refl
+        by (Some local) = refl
+
+-- the text of what is spelled
+pub text-is : (spelled : Spelled) → spelled.text ≡ text_of (names_of spelled)
+text-is spelled = by spelled.is_simple where
+  by : (simple : Bool) → spelled.text ≡ text_of (if simple then record { first = spelled.text; rest = [] } else cut spelled.text)
+  by true = refl
+  by false = sym (names_cut.whole spelled.text)

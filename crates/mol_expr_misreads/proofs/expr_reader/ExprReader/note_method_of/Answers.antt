@@ -1,0 +1,29 @@
+use Rattle.std.proofs.Common.{◌∷◌, refl, ap, ◌∙◌}
+use Rattle.std.proofs.lemmas.Result.{on_ok_weaker}
+use Rattle.mol_asked.specs.Answers.{is_answer}
+use Rattle.mol_expr_misreads.proofs.CutNames.{is-some}
+use Rattle.mol_expr_misreads.proofs.ReadHere.{reads-so}
+use Rattle.mol_references.specs.References.{method_target}
+use Rattle.mol_spelling.specs.SpelledExpressions.{call_reference, class_names, on_class}
+use Rattle.mol_spelling.specs.Writers.{static_method_asked}
+use Rattle.mol_expr_misreads.proofs.expr_reader.ExprReader.note_method_of.Goals as goal
+
+pub static_method-answer-requires : goal.static_method-answer-requires
+static_method-answer-requires g c =
+    let writer = g.N.Names.writer c.args.self.now.names.now in
+    let locals = g.N.Names.locals c.args.self.now.names.now in
+    is-some _ _ _ (c.as_slice.ensures.value ∙ c.in_ok-path.ensures ∙ ap (λ names. names.first ∷ names.rest) c.in_ok-spelled.ensures)
+
+pub returns : goal.returns
+returns g c =
+    let writer = g.N.Names.writer c.args.self.now.names.now in
+    let locals = g.N.Names.locals c.args.self.now.names.now in
+    let place = c.args.self.now.place in
+    let kept = c.args.self.now.locals.now in
+    on_ok_weaker c.note.result (λ noted. noted (call_reference writer locals (on_class c.args.class.now) c.args.method.now c.args.arity)
+    (refl)
+    (reads-so writer locals place kept c.requires _ (method_target c.args.method.now) _ locals _ _ (c.is.ensures ∙ ap (is_answer
+    (method_target c.args.method.now)) (c.static_method-answer.ensures locals (class_names writer locals c.args.class.now) c.requires.at
+    (c.as_slice.ensures.value ∙ c.in_ok-path.ensures ∙ ap (λ names. names.first ∷ names.rest) c.in_ok-spelled.ensures))) (refl) (ap
+    (λ name. static_method_asked (class_names writer locals c.args.class.now) name c.args.arity) (c.in_ok-name.ensures
+    ∙ c.name_of.ensures)))) c.note.ensures

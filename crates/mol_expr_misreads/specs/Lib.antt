@@ -1,0 +1,6 @@
+pub mod Kept
+pub mod Names
+pub mod Noted
+pub mod Paths
+pub mod Places
+pub mod References

@@ -1,0 +1,41 @@
+-- Which of several names read as something else than what they are the names of.
+use Rattle.std.specs.Prelude.{◌≡◌, ℕ, suc, Bool, ◌&&◌, not, List, [], ◌∷◌, ◌++◌, if◌then◌else◌}
+use Rattle.std.specs.List.{fold}
+use Rattle.mol_base.specs.declared.ident.Id.{Id}
+use Rattle.jav_view.specs.OnValues as value
+use Rattle.mol_asked.specs.Answers.{is_answer}
+use Rattle.mol_spelling.specs.Answers.{answered}
+use Rattle.mol_spelling.specs.FaultList.{FaultTarget, fault_target}
+use Rattle.mol_spelling.specs.NameFaults.{is_gone}
+use Rattle.mol_spelling.specs.Writers.{Reference, Writer}
+use Rattle.mol_types.specs.Kept.{view_value}
+use Rattle.mol_types.specs.declared.static_type.StaticType.{StaticType}
+
+-- How many names there are up to a place, and of those that are misread the number, from 0, and the target.
+pub record Noted : Type 0 where
+  pub count : ℕ
+  pub misread : List (ℕ × FaultTarget)
+
+abbrev pub none_noted : Noted
+none_noted = record { count = 0; misread = [] }
+
+-- It reads as something else than its target, or as nothing, and the target is not gone.
+abbrev pub is_misread : Writer → Reference → Bool
+is_misread writer reference =
+    not (is_gone writer.program reference.target) && not (is_answer reference.target (answered writer.reader reference))
+
+abbrev pub note : Writer → Noted → Reference → Noted
+note writer noted reference = record {
+  count = suc noted.count;
+  misread = if is_misread writer reference then noted.misread ++ (noted.count, fault_target reference.target) ∷ [] else noted.misread;
+}
+
+-- these too
+abbrev pub noted_after : Writer → Noted → List Reference → Noted
+noted_after writer = fold (note writer)
+
+-- An expression is read: its references are noted, and its value has this static type.
+pub record IsRead (writer : Writer) (before after : Noted) (references : List Reference) (type : value.StaticType Id) (kept : StaticType)
+    : Type 0 where
+  pub noted : after ≡ noted_after writer before references
+  pub typed : view_value kept ≡ type

@@ -1,0 +1,98 @@
+//! Where the names of expressions are read.
+ghost use Rattle.std.specs.Prelude.{◌≡◌, IfOk, OnOk};
+ghost use Rattle.mol_asked.specs.Answers.{is_answer, target_of};
+ghost use Rattle.mol_expr_misreads.specs.Noted.{note};
+ghost use Rattle.mol_expr_misreads.specs.Places.{AreReadAt};
+ghost use Rattle.mol_fault.specs.Kept.{kept_target};
+ghost use Rattle.mol_spelling.specs.Answers.{answered};
+ghost use Rattle.mol_spelling.specs.FaultList.{fault_target, outside_of};
+ghost use Rattle.mol_spelling.specs.NameFaults.{is_gone};
+ghost use Rattle.mol_spelling.specs.Writers.{Reference};
+
+use crate::misreads::Misreads;
+use mol_asked::{NamePlace, Target};
+use mol_base::{OutOfMemory, Text};
+use mol_body_locals::BodyLocals;
+use mol_fault::Target as FaultTarget;
+use mol_table::Table;
+use mol_written::Names;
+use std::alloc::Global;
+
+/// Reads the names of expressions of a program as they are printed in the file of a class: at this place, beside these locals. `names`
+/// knows how they are spelled there. `Err` of its calls is want of memory.
+#[derive(Clone, Copy)]
+pub struct ExprReader<'a, 'n, N> {
+    pub alloc: Global,
+    pub names: &'n N,
+    pub place: NamePlace<'a, 'n>,
+    pub locals: &'n BodyLocals<'a>,
+}
+
+impl<'a, N: Names> ExprReader<'a, '_, N> {
+    /// The table of the program.
+    pub(crate) fn table(&self) -> &'a Table
+        requires { AreReadAt (N.writer self.now.names.now) (N.locals self.now.names.now) self.now.place self.now.locals.now }
+        ensures { result.now ≡ (N.writer self.now.names.now).program }
+    {
+        self.place.variables.members.table()
+    }
+
+    /// Notes the next name by what it is the name of, and whether it reads as that.
+    pub(crate) fn note(
+        &self,
+        misreads: &mut Misreads,
+        target: &Target<'_>,
+        reads: bool,
+    ) -> Result<(), OutOfMemory>
+        requires { AreReadAt (N.writer self.now.names.now) (N.locals self.now.names.now) self.now.place self.now.locals.now }
+        ensures { let writer = N.writer self.now.names.now in
+            OnOk result ((reference : Reference) → target_of target.now ≡ reference.target
+            → reads ≡ is_answer reference.target (answered writer.reader reference)
+            → misreads.new ≡ note writer misreads.old reference) }
+    {
+        if reads || self.is_gone(target) {
+            return misreads.add_read();
+        }
+        let target = fault_target(self.alloc, target)?;
+        misreads.add_misread(target)
+    }
+
+    /// Whether a name is that of what does not live.
+    fn is_gone(&self, target: &Target<'_>) -> bool
+        requires { AreReadAt (N.writer self.now.names.now) (N.locals self.now.names.now) self.now.place self.now.locals.now }
+        ensures { result ≡ is_gone (N.writer self.now.names.now).program (target_of target.now) }
+    {
+        match target {
+            Target::Class(class) => !self.table().lives(*class),
+            Target::Field(field) => !self.table().lives(*field),
+            Target::Method(method) => !self.table().lives(*method),
+            Target::Default(class) => !self.table().lives(*class),
+            Target::Param(_) => false,
+            Target::Local(_) => false,
+            Target::Outside(_) => false,
+        }
+    }
+}
+
+/// What a name is the name of, as a fault has it.
+fn fault_target(alloc: Global, target: &Target<'_>) -> Result<FaultTarget, OutOfMemory>
+    ensures { IfOk result (λ kept. kept_target kept ≡ fault_target (target_of target.now)) }
+{
+    match target {
+        Target::Class(class) => Ok(FaultTarget::Entity(*class)),
+        Target::Field(field) => Ok(FaultTarget::Entity(*field)),
+        Target::Method(method) => Ok(FaultTarget::Entity(*method)),
+        Target::Param(param) => Ok(FaultTarget::Entity(*param)),
+        Target::Default(class) => Ok(FaultTarget::Default(*class)),
+        Target::Local(number) => Ok(FaultTarget::Local(*number)),
+        Target::Outside(text) => outside(alloc, text),
+    }
+}
+
+/// Something outside, by its text.
+fn outside(alloc: Global, text: &str) -> Result<FaultTarget, OutOfMemory>
+    ensures { IfOk result (λ kept. kept_target kept ≡ outside_of text.now) }
+{
+    let text = Text::from_str(alloc, text)?;
+    Ok(FaultTarget::Outside(text))
+}

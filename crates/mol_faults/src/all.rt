@@ -1,0 +1,60 @@
+//! All faults of a program.
+ghost use Rattle.std.specs.Prelude.{◌≡◌, ◌++◌, [], IfOk, OnOk, map};
+ghost use Rattle.mol_fault.specs.Kept.{kept_fault};
+ghost use Rattle.mol_spelling.specs.FaultList.{AreFaults};
+ghost use Rattle.mol_table.specs.Tidy.{tidy};
+
+use mol_base::{List, OutOfMemory};
+use mol_fault::Fault;
+use mol_local_faults::local_clash;
+use mol_method_faults::{apart, outside_name};
+use mol_misread_faults::misread;
+use mol_missing_faults::missing;
+use mol_override_faults::false_override;
+use mol_package_faults::package_is_class;
+use mol_pair_faults::same_address;
+use mol_table::Table;
+use std::alloc::Global;
+
+/// All faults of a program, each once: by their kinds, in the order of the variants of `Fault`, and then by their fields, cells by identity
+/// and slot. There are none exactly where the program is clean. `Err` is want of memory.
+///
+/// The table is tidied once. The time is that of one pass over the program for each kind, and of sorting what they find.
+pub fn faults(alloc: Global, table: &Table) -> Result<List<Fault>, OutOfMemory>
+    ensures { IfOk result (λ faults. AreFaults table.now (map kept_fault faults)) }
+{
+    let tidied = table.tidy(alloc)?;
+    let mut all = Vec::new(alloc);
+    add_all(alloc, &mut all, table, &tidied)?;
+    Ok(List::from_vec(all))
+}
+
+/// Adds the faults of each kind, one kind after another.
+fn add_all(
+    alloc: Global,
+    all: &mut Vec<Fault>,
+    table: &Table,
+    tidied: &Table,
+) -> Result<(), OutOfMemory>
+    requires none { all.old.items ≡ [] }
+    requires tidied { tidied.now ≡ tidy table.now }
+    ensures { OnOk result (AreFaults table.now (map kept_fault all.new.items)) }
+{
+    add(all, same_address(alloc, table)?)?;
+    add(all, false_override(alloc, table)?)?;
+    add(all, apart(alloc, table)?)?;
+    add(all, outside_name(alloc, table)?)?;
+    add(all, missing(alloc, table, tidied)?)?;
+    add(all, misread(alloc, tidied)?)?;
+    add(all, local_clash(alloc, table)?)?;
+    add(all, package_is_class(alloc, table)?)
+}
+
+/// Adds faults at the end.
+fn add(all: &mut Vec<Fault>, found: List<Fault>) -> Result<(), OutOfMemory>
+    ensures { OnOk result (all.new.items ≡ all.old.items ++ found) }
+{
+    let mut found = found.into_vec();
+    all.append(&mut found)?;
+    Ok(())
+}

@@ -1,0 +1,9 @@
+pub mod Following
+pub mod OnWays
+pub mod WaysUp
+pub mod Tops
+pub mod PlacesSearched
+pub mod PlacesAdded
+pub mod LinesTopped
+pub mod Asked
+pub mod LinesNoted

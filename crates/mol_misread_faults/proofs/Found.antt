@@ -1,0 +1,178 @@
+-- What is misread in the files of the classes that live are the faults of misread names.
+use Rattle.std.proofs.Common.{◌≡◌, ◌≢◌, ◌↔◌, ℕ, ◌+◌, Bool, true, false, ◌&&◌, not, if◌then◌else◌, List, [], map, Option, None, Some, Contains, IsTrue, IsFalse, is_some, refl, sym, ap, ◌∙◌, subst, arith, true≢false}
+use Rattle.std.proofs.lemmas.Bool.{and_parts}
+use Rattle.std.specs.FinMap.{get}
+use Rattle.std.specs.List.Sorted.{IsStrictlySortedBy}
+use Rattle.jav_view.proofs.Lists.{Decides-fails, Decides-not, stands-mapped, stands_nowhere}
+use Rattle.mol_asked.proofs.AnswersTested.{tested}
+use Rattle.mol_asked.specs.Answers.{is_answer}
+use Rattle.mol_base.specs.declared.ident.Id.{Id}
+use Rattle.mol_expr_misreads.specs.Noted.{is_misread, none_noted, noted_after}
+use Rattle.mol_fault.specs.OfKind.{AreOfKind}
+use Rattle.mol_misread_faults.proofs.MisreadRows.{IsRow, rows-are, rows-stand}
+use Rattle.mol_misread_faults.proofs.SameRows.{ordered-alike, row_cmp}
+use Rattle.mol_misread_faults.specs.Found.{all_misreads, cell_misreads, class_misreads, fault_of, file_misreads, misread_of}
+use Rattle.mol_misread_faults.specs.declared.row.Row.{Row}
+use Rattle.mol_ordered.proofs.Mapped.{sorted-mapped}
+use Rattle.mol_references.specs.References.{Target}
+use Rattle.mol_spell.proofs.Stands.{from_each, from_map, in_each}
+use Rattle.mol_spelling.specs.Answers.{answered}
+use Rattle.mol_spelling.specs.FaultList.{Fault, FaultKey, FaultTarget, IsFault, by_absence, by_address, by_local, by_outside_name, by_override, by_package, by_place, by_reading, cell_key, default_of, entity, fault_cmp, fault_key, fault_target, local_of, misread, outside_of, target_key}
+use Rattle.mol_spelling.specs.NameFaults.{Misread, MisreadIn, is_gone, unit_reader}
+use Rattle.mol_spelling.specs.SimpleNames.{imports_in, is_simple_in, unit_references, unit_writer}
+use Rattle.mol_spelling.specs.UnitCells.{printed_cells}
+use Rattle.mol_spelling.specs.Writers.{Reference, Writer}
+use Rattle.mol_table.specs.Identities.{AreKnown}
+use Rattle.mol_table.specs.Program.{Program, living_at}
+use Rattle.mol_table.specs.Renumber.{is_class, is_living_class}
+use Rattle.mol_table.specs.Tidy.{tidy}
+use Rattle.mol_values.specs.declared.cell.Cell.{Cell}
+use Rattle.mol_values.specs.declared.known.Known.{Known}
+
+-- ---- a reference
+
+not-true : (b : Bool) → not b ≡ true → b ≡ false
+not-true true is = absurd (true≢false (sym is))
+not-true false is = refl
+
+-- it is misread where its target is there, and it does not read as that
+reads-apart : (writer : Writer) (reference : Reference) → is_misread writer reference ≡ true
+    → IsFalse (is_gone writer.program reference.target) × (answered writer.reader reference ≢ Some reference.target)
+reads-apart writer reference is =
+    let read = answered writer.reader reference in
+    let both = and_parts (not (is_gone writer.program reference.target)) (not (is_answer reference.target read)) is in (
+      not-true (is_gone writer.program reference.target) both.0,
+      Decides-not (tested reference.target read) (not-true (is_answer reference.target read) both.1),
+    )
+
+apart-misread : (writer : Writer) (reference : Reference) → IsFalse (is_gone writer.program reference.target)
+    → answered writer.reader reference ≢ Some reference.target → is_misread writer reference ≡ true
+apart-misread writer reference there differs =
+    λ i. not (there i) && not (Decides-fails (tested reference.target (answered writer.reader reference)) differs i)
+
+-- ---- in the files of a program
+
+-- a fault of a name in the file of a class
+record InFile (program : Program) (fault : Fault) : Type 0 where
+  class : Id
+  at : Cell
+  number : ℕ
+  target : Target
+  misread_in : MisreadIn program class at number target
+  is : misread at number (fault_target target) ≡ fault
+
+class-known : (known : Option Known) → is_class known ≡ true → is_some known ≡ true
+class-known None is = absurd (true≢false (sym is))
+class-known (Some known) is = refl
+
+module _ (program : Program) where
+  -- in a cell
+  in-cell : (class : Id) (at : Cell) (fault : Fault) → IsTrue (is_living_class program class) → Contains (printed_cells program class) at
+      → Contains (cell_misreads program (imports_in program class) (is_simple_in program class) class at) fault → InFile program fault
+  in-cell class at fault lives prints stands =
+      let writer = unit_writer program class at in
+      let references = unit_references program class at in
+      let row = from_map (misread_of at) (noted_after writer none_noted references).misread fault stands in
+      let found : IsRow writer 0 references row.0 = rows-are writer references row.0 row.1 in
+      let apart = reads-apart writer found.reference found.misread in
+      record {
+        class = class;
+        at = at;
+        number = found.place;
+        target = found.reference.target;
+        misread_in = record {
+          class_lives = lives;
+          prints = prints;
+          reference = found.reference;
+          stands = found.stands;
+          names = refl;
+          there = apart.0;
+          differs = apart.1;
+        };
+        is = ap (λ (n : ℕ). misread at n (fault_target found.reference.target))
+            (let n : found.place ≡ 0 + found.place = omega arith in n) ∙ ap (misread_of at) found.is ∙ row.2;
+      }
+
+  in-class : (class : Id) (fault : Fault) (lives : Bool) → is_living_class program class ≡ lives
+      → Contains (if lives then file_misreads program class else []) fault → InFile program fault
+  in-class class fault false is stands = absurd (stands_nowhere fault stands)
+  in-class class fault true is stands =
+      let found = from_each (cell_misreads program (imports_in program class) (is_simple_in program class) class)
+      (printed_cells program class) fault stands in
+      in-cell class found.0 fault is found.1 found.2
+
+  -- what is found is misread in a file
+  in-files : (ids : List Id) (fault : Fault) → Contains (all_misreads program ids) fault → InFile program fault
+  in-files ids fault stands =
+      let found = from_each (class_misreads program) ids fault stands in
+      in-class found.0 fault (is_living_class program found.0) refl found.2
+
+  -- and what is misread in a file is found
+  is-found : (ids : List Id) → AreKnown program ids → (class : Id) (at : Cell) (number : ℕ) (target : Target)
+      → MisreadIn program class at number target → Contains (all_misreads program ids) (misread at number (fault_target target))
+  is-found ids known class at number target reads =
+      let fault : Fault = misread at number (fault_target target) in
+      let writer = unit_writer program class at in
+      let of_cell = cell_misreads program (imports_in program class) (is_simple_in program class) class in
+      let is : is_misread writer reads.reference ≡ true = apart-misread writer reads.reference
+      (subst (λ (t : Target). IsFalse (is_gone program t)) (sym reads.names) reads.there)
+      (subst (λ (t : Target). answered (unit_reader program class at) reads.reference ≢ Some t) (sym reads.names) reads.differs) in
+      let in_cell : Contains (of_cell at) fault = subst (λ (t : Target). Contains (of_cell at) (misread at number (fault_target t)))
+      reads.names
+      (stands-mapped (misread_of at) (noted_after writer none_noted (unit_references program class at)).misread
+      (number, fault_target reads.reference.target)
+      (rows-stand writer (unit_references program class at) number reads.reference reads.stands is)) in
+      in_each (class_misreads program) ids class fault
+      ((known class).1 (class-known (get program.known class)
+      (and_parts (is_class (get program.known class)) (living_at program class) reads.class_lives).0))
+      (subst (λ (lives : Bool). Contains (if lives then file_misreads program class else []) fault) (sym reads.class_lives)
+      (in_each of_cell (printed_cells program class) at fault reads.prints in_cell))
+
+-- ---- the faults
+
+kind-kept : (target : FaultTarget) (key : FaultKey) → (target_key target key).kind ≡ key.kind
+kind-kept (entity id) key = refl
+kind-kept (default_of class) key = refl
+kind-kept (local_of number) key = refl
+kind-kept (outside_of text) key = refl
+
+-- what stands in one list stands in the other, made into something else
+same-mapped : {X Y : Type 0} (make : X → Y) (xs ys : List X) (y : Y) → ((x : X) → Contains xs x → Contains ys x) → Contains (map make xs) y
+    → Contains (map make ys) y
+same-mapped {X} {Y} make xs ys y all stands =
+    let found = from_map make xs y stands in
+    subst (Contains (map make ys)) found.2 (stands-mapped make ys found.0 (all found.0 found.1))
+
+module _ (program tidied : Program) (is-tidied : tidied ≡ tidy program) (ids : List Id) (known : AreKnown tidied ids)
+    (rows ordered : List Row) (found : map fault_of rows ≡ all_misreads tidied ids)
+    (same : (row : Row) → Contains ordered row ↔ Contains rows row) where
+  is-fault : (fault : Fault) → Contains (map fault_of ordered) fault → IsFault program fault × ((fault_key fault).kind ≡ 5)
+  is-fault fault stands =
+      let here = in-files tidied ids fault (subst (λ (faults : List Fault). Contains faults fault) found
+      (same-mapped fault_of ordered rows fault (λ row. (same row).0) stands)) in
+      let reads : Misread program here.at here.number here.target = record {
+        class = here.class;
+        misread = subst (λ (p : Program). MisreadIn p here.class here.at here.number here.target) is-tidied here.misread_in;
+      } in
+      subst (λ (f : Fault). IsFault program f × ((fault_key f).kind ≡ 5)) here.is
+      (by_reading reads, kind-kept (fault_target here.target) (record (cell_key 5 here.at) { number = here.number }))
+
+  stands-fault : (fault : Fault) → IsFault program fault → (fault_key fault).kind ≡ 5 → Contains (map fault_of ordered) fault
+  stands-fault fault (by_reading {at = at} {number = number} {target = target} reads) kind =
+      same-mapped fault_of rows ordered (misread at number (fault_target target)) (λ row. (same row).1)
+      (subst (λ (faults : List Fault). Contains faults (misread at number (fault_target target))) (sym found)
+      (is-found tidied ids known reads.class at number target
+      (subst (λ (p : Program). MisreadIn p reads.class at number target) (sym is-tidied) reads.misread)))
+  stands-fault fault (by_address h) kind = absurd (omega (arith, kind))
+  stands-fault fault (by_override h) kind = absurd (omega (arith, kind))
+  stands-fault fault (by_place h) kind = absurd (omega (arith, kind))
+  stands-fault fault (by_outside_name h) kind = absurd (omega (arith, kind))
+  stands-fault fault (by_absence h) kind = absurd (omega (arith, kind))
+  stands-fault fault (by_local h) kind = absurd (omega (arith, kind))
+  stands-fault fault (by_package h) kind = absurd (omega (arith, kind))
+
+  pub are-of-kind : IsStrictlySortedBy row_cmp ordered → AreOfKind program 5 (map fault_of ordered)
+  are-of-kind sorted = record {
+    ascending = sorted-mapped row_cmp fault_cmp fault_of ordered-alike ordered sorted;
+    each = λ fault. (is-fault fault, λ is. stands-fault fault is.0 is.1);
+  }

@@ -1,0 +1,5 @@
+pub mod Found
+pub mod MisreadRows
+pub mod SameFile
+pub mod SameRows
+pub mod Scoped

@@ -1,0 +1,42 @@
+//! The faults of names that are misread.
+ghost use Rattle.std.specs.Prelude.{◌≡◌, IfOk, map};
+ghost use Rattle.mol_fault.specs.Kept.{kept_fault};
+ghost use Rattle.mol_fault.specs.OfKind.{AreAllOfKind};
+ghost use Rattle.mol_misread_faults.specs.Found.{fault_of};
+ghost use Rattle.mol_table.specs.Program.{Program};
+ghost use Rattle.mol_table.specs.Tidy.{tidy};
+
+use crate::files::misread_rows;
+use crate::row::{Row, fault_of};
+use mol_base::{List, OutOfMemory};
+use mol_class_members::ClassMembers;
+use mol_declared::MemberIndex;
+use mol_fault::Fault;
+use mol_ordered::in_order;
+use mol_table::Table;
+use std::alloc::Global;
+
+/// The faults of a program that names in its files read as something else than what they are the names of, or as nothing, in order
+/// (JLS 6.5). The table is that of the program once it is tidied, as it is printed. A name in the result or the parameters of a method
+/// prints once for each declaration that lives, and is listed once where it is misread in any of these files. A name of what does not
+/// live is none of them: that it is gone is a fault of its own. The time is near-linear in the size of what is printed, but for what
+/// names cost. `Err` is want of memory.
+pub fn misread(alloc: Global, tidied: &Table) -> Result<List<Fault>, OutOfMemory>
+    ensures { IfOk result (λ faults. (program : Program) → tidied.now ≡ tidy program → AreAllOfKind program 5 faults) }
+{
+    let index = MemberIndex::new(alloc, tidied)?;
+    let members = ClassMembers::new(alloc, tidied)?;
+    let rows = misread_rows(alloc, &index, &members, tidied.ids())?;
+    faults_of(alloc, in_order(rows))
+}
+
+/// These as faults.
+fn faults_of(alloc: Global, rows: Vec<Row>) -> Result<List<Fault>, OutOfMemory>
+    ensures { IfOk result (λ faults. map kept_fault faults ≡ map fault_of rows.items) }
+{
+    let mut faults = List::new(alloc);
+    for row in rows {
+        faults.add(fault_of(row))?;
+    }
+    Ok(faults)
+}

@@ -1,0 +1,154 @@
+//! The files of a program.
+ghost use Rattle.std.specs.Prelude.{◌≡◌, ◌++◌, IfOk, OnOk, map};
+ghost use Rattle.mol_misread_faults.specs.Files.{AreNamesOf};
+ghost use Rattle.mol_misread_faults.specs.Found.{all_misreads, cells_misreads, class_misreads, fault_of, file_misreads};
+ghost use Rattle.mol_spelling.specs.SimpleNames.{uses_in};
+ghost use Rattle.mol_spelling.specs.UnitCells.{printed_cells};
+
+use crate::cells::FileCells;
+use crate::names_of_file::NamesOfFile;
+use crate::row::Row;
+use jav_imports::ImportIndex;
+use mol_base::{Id, OutOfMemory};
+use mol_body_names::FileNames;
+use mol_cells::is_living_class;
+use mol_class_members::ClassMembers;
+use mol_declared::MemberIndex;
+use mol_file_uses::file_uses;
+use mol_simple_names::SimpleNames;
+use mol_table::Slot;
+use mol_uses::Uses;
+use std::alloc::Global;
+
+/// What is misread in the files of those classes among these identities that live. The index and the members are those of one table.
+pub(crate) fn misread_rows(
+    alloc: Global,
+    index: &MemberIndex<'_>,
+    members: &ClassMembers<'_>,
+    ids: &[Id],
+) -> Result<Vec<Row>, OutOfMemory>
+    requires { members.now ≡ index.now }
+    ensures { IfOk result (λ rows. map fault_of rows.items ≡ all_misreads index.now ids.now) }
+{
+    let mut rows = Vec::new(alloc);
+    for id in ids {
+        add_class(alloc, &mut rows, index, members, id)?;
+    }
+    Ok(rows)
+}
+
+/// Adds what is misread in the file of a class, where it lives.
+fn add_class(
+    alloc: Global,
+    rows: &mut Vec<Row>,
+    index: &MemberIndex<'_>,
+    members: &ClassMembers<'_>,
+    id: &Id,
+) -> Result<(), OutOfMemory>
+    requires { members.now ≡ index.now }
+    ensures { OnOk result (map fault_of rows.new.items ≡ map fault_of rows.old.items ++ class_misreads index.now id.now) }
+{
+    if is_living_class(index.table(), id) {
+        add_file(alloc, rows, index, members, id)
+    } else {
+        Ok(())
+    }
+}
+
+/// Adds what is misread in the file of a class: what its names use is gathered first, which decides what has a simple name.
+fn add_file(
+    alloc: Global,
+    rows: &mut Vec<Row>,
+    index: &MemberIndex<'_>,
+    members: &ClassMembers<'_>,
+    class: &Id,
+) -> Result<(), OutOfMemory>
+    requires { members.now ≡ index.now }
+    ensures { OnOk result (map fault_of rows.new.items ≡ map fault_of rows.old.items ++ file_misreads index.now class.now) }
+{
+    let uses = file_uses(alloc, index, members, class)?;
+    add_by_uses(alloc, rows, index, members, class, &uses)
+}
+
+/// Adds what is misread in the file of a class whose names use this.
+fn add_by_uses<'a>(
+    alloc: Global,
+    rows: &mut Vec<Row>,
+    index: &'a MemberIndex<'_>,
+    members: &ClassMembers<'_>,
+    class: &Id,
+    uses: &'a Uses,
+) -> Result<(), OutOfMemory>
+    requires table { members.now ≡ index.now }
+    requires uses { uses.now ≡ uses_in index.now class.now }
+    ensures { OnOk result (map fault_of rows.new.items ≡ map fault_of rows.old.items ++ file_misreads index.now class.now) }
+{
+    match SimpleNames::new(alloc, index.classes(), *class, uses.items()) {
+        Ok(names) => add_by_names(alloc, rows, index, members, class, &names),
+        Err(OutOfMemory) => Err(OutOfMemory),
+    }
+}
+
+/// Adds what is misread in the file of a class that has these simple names.
+fn add_by_names<'a>(
+    alloc: Global,
+    rows: &mut Vec<Row>,
+    index: &'a MemberIndex<'_>,
+    members: &ClassMembers<'_>,
+    class: &Id,
+    names: &'a SimpleNames<'_>,
+) -> Result<(), OutOfMemory>
+    requires table { members.now ≡ index.now }
+    requires names { AreNamesOf index.now class.now names.now }
+    ensures { OnOk result (map fault_of rows.new.items ≡ map fault_of rows.old.items ++ file_misreads index.now class.now) }
+{
+    let imports = names.imports(alloc)?;
+    let file = NamesOfFile {
+        names,
+        imports: imports.items(),
+    };
+    add_by_imports(alloc, rows, index, members, class, &file)
+}
+
+/// Adds what is misread in the cells of a file with these names, by an index of its imports.
+fn add_by_imports<'a, F: FileNames>(
+    alloc: Global,
+    rows: &mut Vec<Row>,
+    index: &'a MemberIndex<'_>,
+    members: &ClassMembers<'_>,
+    class: &Id,
+    file: &'a F,
+) -> Result<(), OutOfMemory>
+    requires { members.now ≡ index.now }
+    ensures { OnOk result (map fault_of rows.new.items ≡ map fault_of rows.old.items
+        ++ cells_misreads index.now (F.imports file.now) (F.simple file.now) class.now (printed_cells index.now class.now)) }
+{
+    let imports = ImportIndex::new(alloc, file.imported())?;
+    add_cells(alloc, rows, index, members, class, file, &imports)
+}
+
+/// Adds what is misread in the cells of a file with these names and imports.
+fn add_cells<'a, F: FileNames>(
+    alloc: Global,
+    rows: &mut Vec<Row>,
+    index: &'a MemberIndex<'_>,
+    members: &ClassMembers<'_>,
+    class: &Id,
+    file: &'a F,
+    imports: &'a ImportIndex<'_>,
+) -> Result<(), OutOfMemory>
+    requires table { members.now ≡ index.now }
+    requires imports { imports.now ≡ F.imports file.now }
+    ensures { OnOk result (map fault_of rows.new.items ≡ map fault_of rows.old.items
+        ++ cells_misreads index.now (F.imports file.now) (F.simple file.now) class.now (printed_cells index.now class.now)) }
+{
+    let cells = FileCells {
+        alloc,
+        index,
+        file,
+        imports,
+        class: *class,
+    };
+    cells.add_cell(rows, class, Slot::Super)?;
+    cells.add_members(rows, members.members_of(class))
+}

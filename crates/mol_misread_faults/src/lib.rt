@@ -1,0 +1,11 @@
+//! Faults of names: a name that is printed in a file and reads as something else than what it is the name of, or as nothing.
+#![tactic(auto)]
+
+mod cells;
+mod faults;
+mod files;
+mod names_of_file;
+mod row;
+mod scope;
+
+pub use faults::misread;

@@ -1,0 +1,11 @@
+pub mod Among
+pub mod Arms
+pub mod ByFault
+pub mod CellsOf
+pub mod Going
+pub mod InOrder
+pub mod OfTargets
+pub mod OfValues
+pub mod Owners
+pub mod UpTo
+pub mod UpWays

@@ -1,0 +1,6 @@
+pub mod Calls
+pub mod Cells
+pub mod Declarations
+pub mod Met
+pub mod Rests
+pub mod Ways

@@ -1,0 +1,3 @@
+pub mod TopmostDeclarations
+pub mod HighestNoted
+pub mod TopmostFound
