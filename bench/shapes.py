@@ -1,0 +1,37 @@
+"""Programs of one shape, as large as is asked: their files by their paths. Each takes a number."""
+
+
+def chain(number):
+    """Classes that each extend the one before; the last one uses members of the first."""
+    sources = {"chain/C0.java": b"package chain;\nclass C0 {\n  int first;\n  int f(int x) { return first + x; }\n}\n"}
+    for k in range(1, number):
+        body = "  int g() { return this.first + f(1); }\n" if k == number - 1 else ""
+        sources[f"chain/C{k}.java"] = f"package chain;\nclass C{k} extends C{k - 1} {{\n{body}}}\n".encode()
+    return sources
+
+
+def wide(number):
+    """A class of so many fields, and a method that uses each."""
+    fields = "".join(f"  int f{k};\n" for k in range(number))
+    uses = "".join(f"    sum += f{k};\n" for k in range(number))
+    return {"wide/Wide.java": f"package wide;\nclass Wide {{\n{fields}  int sum() {{\n    int sum = 0;\n{uses}    return sum;\n  }}\n}}\n".encode()}
+
+
+def used(number):
+    """So many uses of one class of another package, of a field and of a method."""
+    uses = "".join("    total = add(Item.price, total);\n" for _ in range(number))
+    return {"shop/goods/Item.java": b"package shop.goods;\npublic class Item {\n  public static int price = 1;\n}\n",
+            "shop/Till.java": f"package shop;\nimport shop.goods.Item;\nclass Till {{\n  int total;\n  int add(int a, int b) {{ return a + b; }}\n"
+                              f"  void sell() {{\n{uses}  }}\n}}\n".encode()}
+
+
+def overriding(number):
+    """A method with so many declarations, each in a class of its own that extends the one of the first."""
+    sources = {"over/Base.java": b"package over;\nclass Base {\n  int size(int a, int b) { return a + b; }\n}\n"}
+    for k in range(1, number):
+        sources[f"over/O{k}.java"] = f"package over;\nclass O{k} extends Base {{\n  int size(int a, int b) {{ return super.size(b, {k}); }}\n}}\n".encode()
+    return sources
+
+
+SHAPES = (("chain of classes", chain, 4000), ("fields of a class", wide, 10000), ("uses of three names", used, 10000),
+          ("declarations of a method", overriding, 2000))
