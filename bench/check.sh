@@ -2,7 +2,7 @@
 # Checks a thousand generated sources with `molref check`, and those of the machine's own Java sources that are of the subset, beside
 # javac's parsing, entering and attributing of the same files, in one run: the least time of several runs of the whole process, the ratio,
 # and the peak memory beside the size of the sources. Then 16 MB of sources; and programs of one shape (bench/shapes.py), half as large and
-# whole, where the ratio of the times is about 2 if the time is linear.
+# whole, where the ratio of the times is about 2 if the time is linear and 4 if it is the square.
 # Without javac, or without such sources, their part is left out.
 # Usage: bench/check.sh [PROGRAM], where PROGRAM is the built crate molref.
 set -eu

@@ -3,7 +3,8 @@
 # `molref fmt`, and the same files with clang-format and google-java-format where the machine has them, in one run: the
 # least time of several runs of the whole process, the ratio to each, and the peak memory beside the size of the sources.
 # What was formatted is formatted again, and has to stay. Then 16 MB of sources, and programs of one shape (bench/shapes.py), half as large
-# and whole, where the ratio of the times is about 2 if the time is linear. Without such sources, or without a peer, their part is left out.
+# and whole, where the ratio of the times is about 2 if the time is linear and 4 if it is the square.
+# Without such sources, or without a peer, their part is left out.
 # Usage: bench/fmt.sh [PROGRAM], where PROGRAM is the built crate molref.
 set -eu
 here=$(dirname "$(readlink -f "$0")")

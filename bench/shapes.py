@@ -33,5 +33,16 @@ def overriding(number):
     return sources
 
 
+def named_in_chain(number):
+    """Classes that each extend the one before, and in the last one as many lines that name the first. That no field above hides the name is
+    looked for in each class on the way, so the time is the square."""
+    lines = "    new C0();\n" * number
+    sources = {"chain/C0.java": b"package chain;\nclass C0 {\n}\n"}
+    for k in range(1, number):
+        body = f"  void make() {{\n{lines}  }}\n" if k == number - 1 else ""
+        sources[f"chain/C{k}.java"] = f"package chain;\nclass C{k} extends C{k - 1} {{\n{body}}}\n".encode()
+    return sources
+
+
 SHAPES = (("chain of classes", chain, 4000), ("fields of a class", wide, 10000), ("uses of three names", used, 10000),
-          ("declarations of a method", overriding, 2000))
+          ("declarations of a method", overriding, 2000), ("names in a chain of classes", named_in_chain, 4000))
