@@ -1,0 +1,17 @@
+pub mod ExpressionParts
+pub mod ExpressionTrees
+pub mod Expressions
+pub mod Files
+pub mod KnownNames
+pub mod Members
+pub mod Names
+pub mod StatementFolds
+pub mod StatementParts
+pub mod StatementTrees
+pub mod Statements
+pub mod SuperPlaces
+pub mod TypeTrees
+pub mod Units
+pub mod ValueForms
+pub mod ValueNames
+pub mod Words
