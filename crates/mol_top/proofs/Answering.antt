@@ -63,7 +63,7 @@ by_names : (b : Bool) (c : Option Command) (store : Store) (s : Status) (P Q : L
     → ByNames b c store s P → ByNames b c store s Q
 by_names false c store s P Q more has = more _ has
 by_names true None store s P Q more has = has
-by_names true (Some c) store s P Q more has = λ h e. more _ (has h e)
+by_names true (Some c) store s P Q more has = λ h e. let found = has h e in (found.0, found.1, more found.0 found.2)
 
 -- # What is answered to a refusal
 

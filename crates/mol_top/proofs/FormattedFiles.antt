@@ -1,64 +1,83 @@
--- What `fmt` makes, and what stops it.
-use Rattle.std.proofs.Common.{◌≡◌, ℕ, inr, sym, ◌∙◌, ap, refl, List, [], ◌∷◌, map, subst, arith}
+-- What `fmt` makes of a base, and what stops it after that was read.
+use Rattle.std.proofs.Common.{◌≡◌, ◌⊎◌, inl, inr, ℕ, refl, sym, ◌∙◌, ap, subst, List, arith}
 use Rattle.std.specs.Prelude.{None, Some}
 use Rattle.std.specs.Option.{ForSome}
-use Rattle.mol_base.specs.declared.file.File.{File as Source}
 use Rattle.mol_outside.specs.Contents.{Contents}
-use Rattle.mol_files.specs.Files.{FilePair, file_pairs}
-use Rattle.mol_program.specs.Programs.{AreParsed, AreRead, IsProgram}
-use Rattle.mol_program.proofs.TreesOfFiles.{program-of}
-use Rattle.mol_spell.specs.Files.{Files}
+use Rattle.mol_table.specs.Program.{Program}
+use Rattle.mol_top.proofs.Carrying.{Carries-more}
+use Rattle.mol_top.proofs.Stopping.{either_stops, plain_line, said_plain, store_plain}
 use Rattle.mol_top.specs.Answers.{limit_status, store_status}
-use Rattle.mol_top.specs.Command.{Command, FmtWords}
-use Rattle.mol_top.specs.Formatting.{AreFormatted, HasTexts, FmtRefuses, IsTextWork, fmt_outcome, laid_out, printed_height}
+use Rattle.mol_top.specs.Bases.{IsCleanBase}
+use Rattle.mol_top.specs.Carried.{Carries, CarriesOwn, IsInOut, IsInput, IsInside, IsRead, NoPath}
+use Rattle.mol_top.specs.Command.{Command, FmtWords, fmt_paths}
+use Rattle.mol_top.specs.Formatting.{FmtRefuses, MakesFiles, fmt_outcome, output_refusal, program_heights, program_texts}
 use Rattle.mol_top.specs.Output.{texts_refusal}
 use Rattle.mol_top.specs.Outside.{OnlyReads, Store}
-use Rattle.mol_top.specs.Prepared.{Prepares, StopsCommand}
-use Rattle.mol_top.specs.Refusals.{AreBaseFiles, out_refusal}
+use Rattle.mol_top.specs.Prepared.{IsStopped, Prepares, StopsCommand}
+use Rattle.mol_top.specs.Refusals.{out_refusal}
+use Rattle.mol_top.specs.Report.{line_bytes, refusal_line}
 use Rattle.mol_top.specs.Steps.{Only, Stops}
 use Rattle.mol_top.specs.declared.fault.LimitFault.{LimitFault}
 use Rattle.mol_top.specs.declared.fault.StoreFault.{StoreFault}
-use Rattle.mol_top.specs.declared.fault.StoreFault.TheVariants.{OutOfMemory, ReadFailed}
+use Rattle.mol_top.specs.declared.fault.StoreFault.TheVariants.{OutOfMemory, ReadFailed, Limit}
 use Rattle.mol_top.specs.declared.output.Work.{Work}
+use Rattle.mol_top.specs.declared.refusal.Refusal.{Refusal}
+use Rattle.mol_top.specs.declared.status.Status.{Status}
+use Rattle.mol_top.specs.declared.status.Status.TheVariants.{OutOfMemory as no_memory}
 
--- # Texts
+-- # The files of a program
 
--- the trees of files in the one layout are those files in it
-formatted : (files : List FilePair) (trees : Files) → AreParsed files trees → AreFormatted files (map laid_out trees) (map printed_height trees)
-formatted [] [] are = tt
-formatted [] (t ∷ trees) are = absurd are
-formatted (f ∷ files) [] are = absurd are
-formatted (f ∷ files) (t ∷ trees) are = (
-  are.0.path,
-  record { unit = t.unit; is = record { tokens = are.0.tokens; source = are.0.lexes; tree = are.0.parses }; layout = refl; printed = refl },
-  formatted files trees are.1,
-)
+module _ (out : List ℕ) (program : Program) where
+  -- their folder is in use
+  pub occupied : (old new : Store) (fault : StoreFault) → Stops (Only out) old new (out_refusal out) fault
+      → Stops (Only out) old new (output_refusal out program) fault
+  occupied old new OutOfMemory stops = tt
+  occupied old new (ReadFailed p) stops = stops
+  occupied old new fault stops = λ h e. rw (stops h e) refl
 
-module _ (base : List ℕ) (h : Contents) (read : List Source) (trees : Files) (is : AreBaseFiles base h read) (reads : AreRead (file_pairs read) trees) where
-  pub has_texts : (texts : List FilePair) (heights : List ℕ) → texts ≡ map laid_out trees → heights ≡ map printed_height trees
-      → HasTexts base h texts heights
-  has_texts texts heights made high = record {
-    program = record { read = is.allowed; program = subst IsProgram is.are (program-of (file_pairs read) trees reads) };
-    are = rw (made, high) (subst (λ files. AreFormatted files (map laid_out trees) (map printed_height trees)) is.are (formatted (file_pairs read) trees reads.parsed));
-  }
+  -- they pass a limit
+  pub too_large : (held : Contents) (fault : LimitFault) → out_refusal out held ≡ None
+      → texts_refusal (program_texts program) (program_heights program) ≡ Some (limit_status fault)
+      → output_refusal out program held ≡ Some (store_status (Limit fault))
+  too_large held fault free refused = rw (free, refused) refl
+
+  pub allowed : (held : Contents) → out_refusal out held ≡ None → texts_refusal (program_texts program) (program_heights program) ≡ None
+      → output_refusal out program held ≡ None
+  allowed held free small = rw (free, small) refl
 
 -- # The command
 
-module _ (w : FmtWords) (old : Store) (texts : List FilePair) (heights : List ℕ) (has : ForSome old.held (λ h. HasTexts w.base h texts heights)) where
-  pub fmt_occupied : (mid new : Store) (fault : StoreFault) → OnlyReads old mid → Stops (Only w.out) mid new (out_refusal w.out) fault
-      → StopsCommand (Command.fmt w) old new (store_status fault)
-  fmt_occupied mid new OutOfMemory before stops = tt
-  fmt_occupied mid new (ReadFailed p) before stops = (omega (arith, before.reads, stops.0), inr (inr (ap Some (sym stops.1))))
-  fmt_occupied mid new fault before stops = λ h e. FmtRefuses.occupied texts heights (has h e) (stops h (before.held ∙ e))
-
-  pub fmt_large : (new : Store) (fault : LimitFault) → ForSome old.held (λ h. out_refusal w.out h ≡ None) → texts_refusal texts heights ≡ Some (limit_status fault)
-      → StopsCommand (Command.fmt w) old new (limit_status fault)
-  fmt_large new fault free refused = λ h e. FmtRefuses.large texts heights (has h e) (free h e) refused
-
-  pub fmt_prepared : (work : Work) → ForSome old.held (λ h. out_refusal w.out h ≡ None) → texts_refusal texts heights ≡ None → IsTextWork w.out texts work
+module _ (w : FmtWords) (old : Store) (program : Program) (base : ForSome old.held (λ h. IsCleanBase w.base h program)) where
+  pub fmt_prepared : (mid : Store) (work : Work) → OnlyReads old mid → ForSome mid.held (λ h. MakesFiles w.out program h work)
       → Prepares (Command.fmt w) old work
-  fmt_prepared work free small is = λ h e. record {
-    outcome = fmt_outcome w.out texts;
-    comes = record { texts = texts; heights = heights; has = has h e; free = free h e; small = small; is = refl };
-    is = is;
+  fmt_prepared mid work before made = λ h e. let is = made h (before.held ∙ e) in record {
+    outcome = fmt_outcome w.out (program_texts program);
+    comes = record { program = program; base = base h e; allowed = is.allowed; is = refl };
+    is = is.is;
   }
+
+  fmt_cause : (mid new : Store) (fault : StoreFault) → OnlyReads old mid → Stops (Only w.out) mid new (output_refusal w.out program) fault
+      → StopsCommand (Command.fmt w) old new (store_status fault)
+  fmt_cause mid new OutOfMemory before stops = tt
+  fmt_cause mid new (ReadFailed p) before stops = (omega (arith, before.reads, stops.0), inr (inr (ap Some (sym stops.1))))
+  fmt_cause mid new fault before stops = λ h e. FmtRefuses.files program (base h e) (stops h (before.held ∙ e))
+
+  pub fmt_stopped : (mid new : Store) (fault : StoreFault) (refusal : Refusal) → OnlyReads old mid
+      → Stops (Only w.out) mid new (output_refusal w.out program) fault
+      → (refusal.status ≡ store_status fault) ⊎ (refusal.status ≡ no_memory) → line_bytes refusal.line ≡ refusal_line refusal.status
+      → IsStopped (Command.fmt w) old new refusal
+  fmt_stopped mid new fault refusal before stops said line = record {
+    cause = either_stops (Command.fmt w) old new (store_status fault) refusal.status (fmt_cause mid new fault before stops) said;
+    line = plain_line (Command.fmt w) old refusal (said_plain (store_status fault) refusal.status (store_plain fault) said) line;
+  }
+
+-- # What is carried
+
+pub fmt_carries : (w : FmtWords) (fault : StoreFault) (said : Status) → Carries (Only w.out) NoPath (IsInside w.out) (store_status fault)
+    → (said ≡ store_status fault) ⊎ (said ≡ no_memory) → CarriesOwn (fmt_paths w) said
+fmt_carries w fault said carried (inl is) =
+    let paths = fmt_paths w in
+    subst (CarriesOwn paths) (sym is)
+    (Carries-more (IsRead paths) (Only w.out) (IsInput paths) NoPath (IsInOut paths) (IsInside w.out) (store_status fault)
+    (λ path only. inr (ap Some (sym only))) (λ path none. absurd none) (λ path below. below) carried)
+fmt_carries w fault said carried (inr is) = subst (CarriesOwn (fmt_paths w)) (sym is) tt

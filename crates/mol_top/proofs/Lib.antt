@@ -1,7 +1,9 @@
 pub mod Answering
+pub mod BaseStops
 pub mod Carrying
-pub mod CheckedFiles
+pub mod CheckedBases
 pub mod FormattedFiles
+pub mod ReadBases
 pub mod ReadingBack
 pub mod ReadingFiles
 pub mod SortedPaths

@@ -1,16 +1,16 @@
 -- A step that stops, among others.
-use Rattle.std.proofs.Common.{◌≡◌, ◌⊎◌, inl, inr, ℕ, Bool, List, Option, true, false, ◌∙◌, sym, subst, arith}
+use Rattle.std.proofs.Common.{◌≡◌, ◌⊎◌, inl, inr, ℕ, Bool, List, Option, true, false, ◌∙◌, refl, sym, ap, subst, arith}
 use Rattle.std.specs.Prelude.{Some}
 use Rattle.mol_outside.specs.Contents.{Contents}
 use Rattle.mol_top.specs.Answers.{store_status}
 use Rattle.mol_top.specs.Command.{Command}
-use Rattle.mol_top.specs.Outcome.{ByNames, addresses_line}
+use Rattle.mol_top.specs.Outcome.{ByNames}
 use Rattle.mol_top.specs.Outside.{OnlyReads, Store}
-use Rattle.mol_top.specs.Prepared.{HasItsLine, IsStopped, StopsCommand}
+use Rattle.mol_top.specs.Prepared.{HasItsLine, StopsCommand}
 use Rattle.mol_top.specs.Report.{line_bytes, names_addresses, refusal_line}
 use Rattle.mol_top.specs.Steps.{Stops}
 use Rattle.mol_top.specs.declared.fault.StoreFault.{StoreFault}
-use Rattle.mol_top.specs.declared.fault.StoreFault.TheVariants.{OutOfMemory, ReadFailed}
+use Rattle.mol_top.specs.declared.fault.StoreFault.TheVariants.{OutOfMemory, ReadFailed, Missing, OutInUse, Limit}
 use Rattle.mol_top.specs.declared.refusal.Refusal.{Refusal}
 use Rattle.mol_top.specs.declared.status.Status.{Status}
 use Rattle.mol_top.specs.declared.status.Status.TheVariants.{OutOfMemory as no_memory}
@@ -39,21 +39,20 @@ pub either_stops : (c : Command) (old new : Store) (s said : Status) → StopsCo
 either_stops c old new s said stops (inl is) = subst (StopsCommand c old new) (sym is) stops
 either_stops c old new s said stops (inr is) = subst (StopsCommand c old new) (sym is) tt
 
--- the line of any refusal of a command that names no address is that of its status
-line_of : (b : Bool) (c : Command) (store : Store) (refusal : Refusal) → ((h : Contents) (s : Status) → addresses_line c h s ≡ refusal_line s)
-    → line_bytes refusal.line ≡ refusal_line refusal.status → ByNames b (Some c) store refusal.status (λ line. line_bytes refusal.line ≡ line)
-line_of true c store refusal plain is = λ h e. is ∙ sym (plain h refusal.status)
-line_of false c store refusal plain is = is
-
-pub plain_stopped : (c : Command) (old new : Store) (s : Status) (refusal : Refusal) → ((h : Contents) (s : Status) → addresses_line c h s ≡ refusal_line s)
-    → StopsCommand c old new s → (refusal.status ≡ s) ⊎ (refusal.status ≡ no_memory) → line_bytes refusal.line ≡ refusal_line refusal.status
-    → IsStopped c old new refusal
-plain_stopped c old new s refusal plain stops said line = record {
-  cause = either_stops c old new s refusal.status stops said;
-  line = line_of (names_addresses refusal.status) c old refusal plain line;
-}
-
 -- a line that names no address
 pub plain_line : (c : Command) (store : Store) (refusal : Refusal) → names_addresses refusal.status ≡ false → line_bytes refusal.line ≡ refusal_line refusal.status
     → HasItsLine c store refusal
 plain_line c store refusal plain is = subst (λ b. ByNames b (Some c) store refusal.status (λ line. line_bytes refusal.line ≡ line)) (sym plain) is
+
+-- a status that names no address, or want of memory in its place
+pub said_plain : (s said : Status) → names_addresses s ≡ false → (said ≡ s) ⊎ (said ≡ no_memory) → names_addresses said ≡ false
+said_plain s said plain (inl is) = ap names_addresses is ∙ plain
+said_plain s said plain (inr is) = ap names_addresses is
+
+-- what is answered to a fault of the store names none
+pub store_plain : (fault : StoreFault) → names_addresses (store_status fault) ≡ false
+store_plain OutOfMemory = refl
+store_plain (ReadFailed p) = refl
+store_plain (Missing p) = refl
+store_plain (OutInUse p) = refl
+store_plain (Limit fault) = refl

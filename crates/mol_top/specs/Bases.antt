@@ -1,20 +1,32 @@
--- Bases whose files are a program, and what refuses others.
+-- Bases whose files are a clean program, and what refuses others.
 use Rattle.std.specs.Prelude.{◌≡◌, ℕ, List, None, Some}
 use Rattle.mol_base.specs.declared.file.Place.{Place}
 use Rattle.mol_outside.specs.Contents.{Contents}
+use Rattle.mol_fault.specs.Kept.{kept_fault}
+use Rattle.mol_fault.specs.declared.fault.Fault.{Fault}
+use Rattle.mol_faults.specs.First.{IsFirst}
 use Rattle.mol_files.specs.Files.{FilePair}
-use Rattle.mol_program.specs.Programs.{AreRefused, IsProgram}
+use Rattle.mol_program.specs.Programs.{AreRefused, IsReadAs}
 use Rattle.mol_program.specs.declared.fault.ProgramFault.{ProgramFault}
+use Rattle.mol_spelling.specs.Clean.{Clean}
+use Rattle.mol_table.specs.Program.{Program}
+use Rattle.mol_table.specs.Rules.{IsProgram as KeepsRules}
 use Rattle.mol_top.specs.Files.{base_files}
 use Rattle.mol_top.specs.Refusals.{reading_refusal}
-use Rattle.mol_top.specs.declared.status.BaseFault.TheVariants.{Source}
+use Rattle.mol_top.specs.declared.status.BaseFault.TheVariants.{Source, Unclean}
 use Rattle.mol_top.specs.declared.status.Status.{Status}
 use Rattle.mol_top.specs.declared.status.Status.TheVariants.{BaseRefused}
 
--- nothing refuses the reading of a base, and its files read as a program
-pub record IsProgramBase (base : List ℕ) (held : Contents) : Type 0 where
+-- nothing refuses the reading of a base, and its files read as this program, which is in plain form
+pub record IsBaseOf (base : List ℕ) (held : Contents) (program : Program) : Type 0 where
   pub read : reading_refusal base held ≡ None
-  pub program : IsProgram (base_files base held)
+  pub read_as : IsReadAs (base_files base held) program
+
+-- so it is, and the program keeps the rules of programs and is clean: each name in its files will mean what it means
+pub record IsCleanBase (base : List ℕ) (held : Contents) (program : Program) : Type 0 where
+  pub is : IsBaseOf base held program
+  pub rules : KeepsRules program
+  pub clean : Clean program
 
 -- files are refused: for what is wrong with them first, at its place
 pub record RefuseFiles (files : List FilePair) (status : Status) : Type 0 where
@@ -23,7 +35,14 @@ pub record RefuseFiles (files : List FilePair) (status : Status) : Type 0 where
   pub wrong : AreRefused files place fault
   pub is : status ≡ BaseRefused (Source place fault)
 
--- what refuses a base that is to be a program, in the order of a run
+-- a program that is not clean is refused: for its first fault
+pub record RefuseProgram (program : Program) (status : Status) : Type 0 where
+  pub fault : Fault
+  pub first : IsFirst program (Some (kept_fault fault))
+  pub is : status ≡ BaseRefused (Unclean fault)
+
+-- what refuses a base that is to be a clean program, in the order of a run
 pub data BaseRefuses (base : List ℕ) (held : Contents) (status : Status) : Type 0 where
   reading : reading_refusal base held ≡ Some status → BaseRefuses base held status
   files : reading_refusal base held ≡ None → RefuseFiles (base_files base held) status → BaseRefuses base held status
+  unclean : (program : Program) → IsBaseOf base held program → RefuseProgram program status → BaseRefuses base held status

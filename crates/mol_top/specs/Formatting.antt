@@ -1,81 +1,65 @@
 -- What `fmt` writes, and what refuses it.
-use Rattle.std.specs.Prelude.{◌≡◌, ℕ, ⊤, List, [], ◌∷◌, length, None, Some}
-use Rattle.jav_tree.specs.Layout.{unit_text}
-use Rattle.jav_tree.specs.Parens.{unit_without_parens}
+use Rattle.std.specs.Prelude.{◌≡◌, ℕ, List, length, map, Option, None, Some}
+use Rattle.std.specs.Option.{option_or}
 use Rattle.jav_tree.specs.WithParens.{unit_printed_height}
-use Rattle.mol_outside.specs.Contents.{Contents}
 use Rattle.mol_files.specs.Files.{FilePair}
-use Rattle.mol_source.specs.Sources.{IsFormatted, ReadsBack}
-use Rattle.mol_spell.specs.Files.{File}
-use Rattle.mol_top.specs.Bases.{BaseRefuses, IsProgramBase}
+use Rattle.mol_outside.specs.Contents.{Contents}
+use Rattle.mol_spell.specs.ReadAs.{SourceText}
+use Rattle.mol_spelling.specs.PrintedFiles.{printed_files}
+use Rattle.mol_spelling.specs.SpelledUnits.{SpelledUnit, spelling}
+use Rattle.mol_table.specs.Program.{Program}
+use Rattle.mol_top.specs.Bases.{BaseRefuses, IsCleanBase}
 use Rattle.mol_top.specs.Command.{FmtWords}
-use Rattle.mol_top.specs.Files.{base_files}
-use Rattle.mol_top.specs.Output.{Outcome, IsWork, below, texts_refusal}
+use Rattle.mol_top.specs.Output.{IsWork, Outcome, below, texts_refusal}
 use Rattle.mol_top.specs.Refusals.{out_refusal}
 use Rattle.mol_top.specs.Report.{fmt_report}
 use Rattle.mol_top.specs.declared.output.Work.{Work}
 use Rattle.mol_top.specs.declared.status.Status.{Status}
 
--- # Files in the one layout
+-- # The files of a program
 
--- these texts are those of these files in the one layout, under the same paths, and these are the heights of their trees as printed
-abbrev pub AreFormatted : List FilePair → List FilePair → List ℕ → Type 0
-AreFormatted [] [] [] = ⊤
-AreFormatted (file ∷ files) (text ∷ texts) (height ∷ heights) =
-    (text.0 ≡ file.0) × IsFormatted file.1 text.1 height × AreFormatted files texts heights
-AreFormatted files texts heights = ⊥
+abbrev pub written_text : SourceText → FilePair
+written_text text = (text.path, text.bytes)
 
--- the text of a tree in the one layout, under its path
-abbrev pub laid_out : File → FilePair
-laid_out tree = (tree.path, unit_text (unit_without_parens tree.unit))
+-- the source files that a program is spelled as, in the one layout, each with its path
+abbrev pub program_texts : Program → List FilePair
+program_texts program = map written_text (printed_files program)
 
-abbrev pub printed_height : File → ℕ
-printed_height tree = unit_printed_height tree.unit
+abbrev pub printed_height : SpelledUnit → ℕ
+printed_height file = unit_printed_height file.unit
 
--- # The command
+-- the heights of their trees as printed
+abbrev pub program_heights : Program → List ℕ
+program_heights program = map printed_height (spelling program)
 
--- nothing refuses a base, and these are the texts of its files in the one layout, with the heights of their trees as printed
-pub record HasTexts (base : List ℕ) (held : Contents) (texts : List FilePair) (heights : List ℕ) : Type 0 where
-  pub program : IsProgramBase base held
-  pub are : AreFormatted (base_files base held) texts heights
+-- # What refuses these files, and what is made of them
 
--- what refuses the command, in the order of a run
-pub data FmtRefuses (words : FmtWords) (held : Contents) (status : Status) : Type 0 where
-  base : BaseRefuses words.base held status → FmtRefuses words held status
-  occupied : (texts : List FilePair) (heights : List ℕ) → HasTexts words.base held texts heights → out_refusal words.out held ≡ Some status
-      → FmtRefuses words held status
-  large : (texts : List FilePair) (heights : List ℕ) → HasTexts words.base held texts heights → out_refusal words.out held ≡ None
-      → texts_refusal texts heights ≡ Some status → FmtRefuses words held status
+-- the folder in which the files of a program are to be written is in use, or they pass a limit
+abbrev pub output_refusal : List ℕ → Program → Contents → Option Status
+output_refusal out program held = option_or (out_refusal out held) (texts_refusal (program_texts program) (program_heights program))
 
 abbrev pub fmt_outcome : List ℕ → List FilePair → Outcome
 fmt_outcome out texts = record { conflicts = 0; files = below out texts; report = fmt_report (length texts) }
 
--- nothing refuses the command, and it comes to this
-pub record FmtComesTo (words : FmtWords) (held : Contents) (outcome : Outcome) : Type 0 where
-  pub texts : List FilePair
-  pub heights : List ℕ
-  pub has : HasTexts words.base held texts heights
-  pub free : out_refusal words.out held ≡ None
-  pub small : texts_refusal texts heights ≡ None
-  pub is : outcome ≡ fmt_outcome words.out texts
-
--- # What is made of it
-
 abbrev pub IsTextWork : List ℕ → List FilePair → Work → Type 0
 IsTextWork out texts work = IsWork work (fmt_outcome out texts)
 
--- # What is written reads back
+-- nothing refuses the files of a program below a folder, and this is made of them
+pub record MakesFiles (out : List ℕ) (program : Program) (held : Contents) (work : Work) : Type 0 where
+  pub allowed : output_refusal out program held ≡ None
+  pub is : IsTextWork out (program_texts program) work
 
--- each of these texts has the path of its file, and is the source of that file's tree as printed
-abbrev pub AreReadBack : List FilePair → List FilePair → Type 0
-AreReadBack [] [] = ⊤
-AreReadBack (file ∷ files) (text ∷ texts) = (text.0 ≡ file.0) × ReadsBack file.1 text.1 × AreReadBack files texts
-AreReadBack files texts = ⊥
+-- # The command
 
--- an outcome writes texts that read back as the files of the base, and that are in the one layout themselves
-pub record WritesSources (words : FmtWords) (held : Contents) (outcome : Outcome) : Type 0 where
-  pub texts : List FilePair
-  pub heights : List ℕ
-  pub files : outcome.files ≡ below words.out texts
-  pub read_back : AreReadBack (base_files words.base held) texts
-  pub settled : AreFormatted texts texts heights
+-- what refuses the command, in the order of a run
+pub data FmtRefuses (words : FmtWords) (held : Contents) (status : Status) : Type 0 where
+  base : BaseRefuses words.base held status → FmtRefuses words held status
+  files : (program : Program) → IsCleanBase words.base held program → output_refusal words.out program held ≡ Some status
+      → FmtRefuses words held status
+
+-- Nothing refuses the command, and it comes to this: the files of the program that the base is.
+pub record FmtComesTo (words : FmtWords) (held : Contents) (outcome : Outcome) : Type 0 where
+  pub program : Program
+  pub base : IsCleanBase words.base held program
+  pub allowed : output_refusal words.out program held ≡ None
+  pub is : outcome ≡ fmt_outcome words.out (program_texts program)

@@ -2,6 +2,7 @@ pub mod Answers
 pub mod Bases
 pub mod Carried
 pub mod Checking
+pub mod CleanBases
 pub mod Code
 pub mod Command
 pub mod Files
@@ -10,8 +11,11 @@ pub mod Outcome
 pub mod Output
 pub mod Outside
 pub mod Prepared
+pub mod ReadBack
 pub mod Refusals
+pub mod Refused
 pub mod Report
 pub mod Steps
+pub mod UncleanLines
 pub mod Words
 pub mod renames

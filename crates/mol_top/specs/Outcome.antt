@@ -4,11 +4,12 @@ use Rattle.std.specs.Option.{ForSome}
 use Rattle.mol_outside.specs.Contents.{Contents, appended, HasRisen}
 use Rattle.mol_top.specs.Checking.{CheckRefuses, CheckComesTo}
 use Rattle.mol_top.specs.Command.{Command, paths_of}
-use Rattle.mol_top.specs.Formatting.{FmtRefuses, FmtComesTo, WritesSources}
+use Rattle.mol_top.specs.Formatting.{FmtRefuses, FmtComesTo}
 use Rattle.mol_top.specs.Outside.{Store, State}
 use Rattle.mol_top.specs.Output.{Outcome, written_all}
 use Rattle.mol_top.specs.Report.{names_addresses, refusal_line}
 use Rattle.mol_top.specs.Steps.{IsNamed, IsRefusal, IsFinal, HasFailed, HasPart, IsCutAt, IsUnreported}
+use Rattle.mol_top.specs.UncleanLines.{IsProgramLine}
 use Rattle.mol_top.specs.declared.status.Status.{Status}
 use Rattle.mol_top.specs.declared.status.Status.TheVariants.{Done, Conflicts, Usage, ReadFailed, WriteFailed, OutOfMemory}
 use Rattle.mol_top.specs.renames.ConflictReport.{merge_line}
@@ -31,10 +32,10 @@ ComesTo (Command.check words) held outcome = CheckComesTo words held outcome
 ComesTo (Command.fmt words) held outcome = FmtComesTo words held outcome
 
 -- the line of a refusal that names addresses of the base
-abbrev pub addresses_line : Command → Contents → Status → List ℕ
-addresses_line (Command.merge words) held status = merge_line (base_of words held) status
-addresses_line (Command.check words) held status = refusal_line status
-addresses_line (Command.fmt words) held status = refusal_line status
+abbrev pub IsAddressesLine : Command → Contents → Status → List ℕ → Type 0
+IsAddressesLine (Command.merge words) held status line = line ≡ merge_line (base_of words held) status
+IsAddressesLine (Command.check words) held status line = IsProgramLine words.base held status line
+IsAddressesLine (Command.fmt words) held status line = IsProgramLine words.base held status line
 
 -- the words spell a command, and over what the store held, where it tells, it comes to what is so
 abbrev pub Comes : Option Command → Store → (Outcome → Type 0) → Type 0
@@ -65,7 +66,8 @@ WritesNothing status = ⊤
 -- so is the line of a refusal. Where it names addresses, the words spell a command, and they are those of its base over what
 -- the store held, where it tells
 abbrev pub ByNames : Bool → Option Command → Store → Status → (List ℕ → Type 0) → Type 0
-ByNames true c store status P = IsSomeAnd c (λ c. ForSome store.held (λ h. P (addresses_line c h status)))
+ByNames true c store status P =
+    IsSomeAnd c (λ c. ForSome store.held (λ h. (line : List ℕ) × IsAddressesLine c h status line × P line))
 ByNames false c store status P = P (refusal_line status)
 
 abbrev pub HasLine : Option Command → Store → Status → (List ℕ → Type 0) → Type 0
@@ -109,11 +111,3 @@ abbrev pub IsSameInEitherOrder : Command → Contents → Type 0
 IsSameInEitherOrder (Command.merge words) held = refusal words held ≡ None → IsSameSwapped words held
 IsSameInEitherOrder (Command.check words) held = ⊤
 IsSameInEitherOrder (Command.fmt words) held = ⊤
-
--- # Reading back
-
--- whatever `fmt` comes to, its files have the trees of those of the base as printed, and are in the one layout already
-abbrev pub FilesReadBack : Command → Contents → Type 0
-FilesReadBack (Command.merge words) held = ⊤
-FilesReadBack (Command.check words) held = ⊤
-FilesReadBack (Command.fmt words) held = (outcome : Outcome) → FmtComesTo words held outcome → WritesSources words held outcome

@@ -10,8 +10,7 @@ use Rattle.mol_program.specs.FaultTexts.{name, feature}
 use Rattle.mol_program.specs.declared.fault.ProgramFault.{ProgramFault}
 use Rattle.mol_top.specs.declared.refusal.Line.{Line}
 use Rattle.mol_top.specs.declared.refusal.Line.TheVariants.{Fixed, Made}
-use Rattle.mol_top.specs.declared.status.BaseFault.{BaseFault}
-use Rattle.mol_top.specs.declared.status.BaseFault.TheVariants.{Source}
+use Rattle.mol_top.specs.declared.status.BaseFault.TheVariants.{Source, Unclean}
 use Rattle.mol_renames.specs.declared.log_cause.LogCause.TheVariants.{SharedTag, Replay}
 use Rattle.mol_top.specs.declared.status.Status.{Status}
 use Rattle.mol_top.specs.declared.status.Status.TheVariants.{Done, Conflicts, Usage, BaseRefused, LogRefused, ReadFailed, Missing, WriteFailed, OutOfMemory, OutInUse, Limit, NotBuilt}
@@ -38,8 +37,12 @@ feature_text (Some feature) = 32 ∷ feature_name feature
 abbrev pub fault_text : ProgramFault → List ℕ
 fault_text fault = name fault ++ feature_text (feature fault)
 
-abbrev pub base_fault_text : BaseFault → List ℕ
-base_fault_text (Source place fault) = place_text place ++ 32 ∷ fault_text fault
+-- the line of a refused base, by what is said of it
+abbrev pub base_line : List ℕ → List ℕ
+base_line text = codes "base " ++ text ++ 10 ∷ []
+
+abbrev pub source_text : Place → ProgramFault → List ℕ
+source_text place fault = place_text place ++ 32 ∷ fault_text fault
 
 abbrev pub limit_text : Which → List ℕ
 limit_text limits.Files = codes "files"
@@ -57,6 +60,7 @@ log_line which cause = codes "log " ++ decimal which ++ 32 ∷ cause ++ 10 ∷ [
 -- the line of a refusal names addresses of the base: then its command makes it
 abbrev pub names_addresses : Status → Bool
 names_addresses (LogRefused which (Replay fault)) = true
+names_addresses (BaseRefused (Unclean fault)) = true
 names_addresses status = false
 
 -- the line of any other refusal
@@ -64,7 +68,8 @@ abbrev pub refusal_line : Status → List ℕ
 refusal_line Done = []
 refusal_line (Conflicts count) = []
 refusal_line Usage = codes "usage: molref check BASE\nusage: molref fmt BASE OUT\nusage: molref merge BASE LOG1 LOG2 OUT\n"
-refusal_line (BaseRefused fault) = codes "base " ++ base_fault_text fault ++ 10 ∷ []
+refusal_line (BaseRefused (Source place fault)) = base_line (source_text place fault)
+refusal_line (BaseRefused (Unclean fault)) = []
 refusal_line (LogRefused which (SharedTag tag)) = log_line which (codes "shared-tag " ++ tag)
 refusal_line (LogRefused which (Replay fault)) = []
 refusal_line (ReadFailed path) = codes "read-failed " ++ path ++ 10 ∷ []

@@ -1,41 +1,41 @@
-//! What `check` answers: whether the sources of a base are a program.
+//! What `check` answers: whether the sources of a base are a clean program.
 ghost use Rattle.std.specs.Prelude.{IfErr, IfOk};
 ghost use Rattle.mol_top.specs.Carried.{CarriesOwn};
 ghost use Rattle.mol_top.specs.Checking.{check_outcome};
 ghost use Rattle.mol_top.specs.Command.{check_paths};
 ghost use Rattle.mol_top.specs.Output.{IsReady, IsWork};
 ghost use Rattle.mol_top.specs.Outside.{OnlyReads, store};
-ghost use Rattle.mol_top.specs.Prepared.{Prepares, StopsCommand};
+ghost use Rattle.mol_top.specs.Prepared.{IsStopped, Prepares};
 ghost use Rattle.mol_top.specs.Words.{check_command, check_words};
 
+use crate::clean_base::read_clean_base;
 use crate::command::CheckWords;
 use crate::output::Work;
+use crate::refusal::Refusal;
 use crate::report::check_report;
-use crate::status::Status;
-use crate::store::read_base;
 use mol_base::OutOfMemory;
 use mol_outside::Files;
-use mol_program::check_files;
 use std::alloc::Global;
 
 /// What `check` prints. It writes nothing.
 ///
-/// Refuses, in this order, what the reading of a base refuses, the first file that is no source, and the first fault of names.
-/// The time is near-linear in the bytes of the sources, and for each look-up of a member in the classes that it goes up.
+/// Refuses what `read_clean_base` refuses.
 pub fn prepare_check<F: Files>(
     alloc: Global,
     words: CheckWords<'_>,
     files: &mut F,
-) -> Result<Work, Status>
+) -> Result<Work, Refusal>
     ensures only_reads { OnlyReads (store F.Files files.old) (store F.Files files.new) }
     ensures ready { IfOk result IsReady }
     ensures work { IfOk result (Prepares (check_command words.entry) (store F.Files files.old)) }
-    ensures stop { IfErr result (StopsCommand (check_command words.entry) (store F.Files files.old) (store F.Files files.new)) }
-    ensures carries { IfErr result (CarriesOwn (check_paths (check_words words.entry))) }
+    ensures stop { IfErr result (IsStopped (check_command words.entry) (store F.Files files.old) (store F.Files files.new)) }
+    ensures carries { IfErr result (λ refusal. CarriesOwn (check_paths (check_words words.entry)) refusal.status) }
 {
-    let read = read_base(alloc, words.base, files)?;
-    check_files(alloc, read.as_slice())?;
-    Ok(check_work(alloc, read.len())?)
+    let base = read_clean_base(alloc, words.base, files)?;
+    match check_work(alloc, base.files) {
+        Ok(work) => Ok(work),
+        Err(OutOfMemory) => Err(Refusal::out_of_memory()),
+    }
 }
 
 /// The report of so many files.

@@ -1,74 +1,131 @@
-//! What `fmt` writes: each source of a base in the one layout.
+//! What `fmt` writes: the program of a base as source files in the one layout.
 ghost use Rattle.std.specs.Prelude.{◌≡◌, IfErr, IfOk, map};
-ghost use Rattle.mol_files.specs.Files.{file_pairs};
-ghost use Rattle.mol_sources.specs.Sources.{files_of};
-ghost use Rattle.mol_top.specs.Carried.{CarriesOwn};
+ghost use Rattle.std.specs.Option.{ForSome};
+ghost use Rattle.mol_files.specs.Files.{file_pair, file_pairs};
+ghost use Rattle.mol_spelling.specs.PrintedFiles.{printed_text};
+ghost use Rattle.mol_spelt.specs.Spelt.{spelled_of};
+ghost use Rattle.mol_top.specs.Answers.{store_status};
+ghost use Rattle.mol_top.specs.Carried.{Carries, CarriesOwn, IsInside, NoPath};
 ghost use Rattle.mol_top.specs.Command.{fmt_paths};
-ghost use Rattle.mol_top.specs.Formatting.{IsTextWork, laid_out, printed_height};
+ghost use Rattle.mol_top.specs.Formatting.{IsTextWork, MakesFiles, output_refusal};
+ghost use Rattle.mol_top.specs.Formatting.{printed_height, program_heights, program_texts, written_text};
 ghost use Rattle.mol_top.specs.Output.{IsReady};
 ghost use Rattle.mol_top.specs.Outside.{OnlyReads, store};
-ghost use Rattle.mol_top.specs.Prepared.{Prepares, StopsCommand};
+ghost use Rattle.mol_top.specs.Prepared.{IsStopped, Prepares};
+ghost use Rattle.mol_top.specs.Steps.{Only, Stops};
 ghost use Rattle.mol_top.specs.Words.{fmt_command, fmt_words};
 
+use crate::clean_base::read_clean_base;
 use crate::command::FmtWords;
+use crate::fault::StoreFault;
 use crate::output::{Work, below, failure_lines, refuse_large};
+use crate::refusal::Refusal;
 use crate::report::fmt_report;
 use crate::status::Status;
-use crate::store::{check_out, fitted, read_base};
+use crate::store::{check_out, fitted};
+use jav_height::printed_height;
+use jav_print::print;
 use mol_base::{File, List, OutOfMemory, Text};
 use mol_outside::Files;
-use mol_program::{SourceUnit, program_units};
-use mol_source::{Formatted, formatted_unit};
+use mol_spelt::{SpeltUnit, spell};
+use mol_table::Table;
 use std::alloc::Global;
 
-/// All that `fmt` writes and prints: the sources below BASE in the one layout, below OUT under the same paths.
+/// All that `fmt` writes and prints: the files of the program below BASE, below OUT.
 ///
-/// Refuses, in this order, what the reading of a base refuses, the first file that is no source, the first fault of names, a
-/// folder OUT that is in use, and a result that passes a limit. The time is near-linear in the bytes of the sources and of the
-/// result, and for each look-up of a member in the classes that it goes up. Of the sources only the trees are kept, and each text
-/// takes the place of its tree.
+/// Refuses, in this order, what `read_clean_base` refuses, a folder OUT that is in use, and files that pass a limit. The time is
+/// near-linear in the bytes of the sources and of the files, but for what names cost.
 pub fn prepare_fmt<F: Files>(
     alloc: Global,
     words: FmtWords<'_>,
     files: &mut F,
-) -> Result<Work, Status>
+) -> Result<Work, Refusal>
     ensures only_reads { OnlyReads (store F.Files files.old) (store F.Files files.new) }
     ensures ready { IfOk result IsReady }
     ensures work { IfOk result (Prepares (fmt_command words.entry) (store F.Files files.old)) }
-    ensures stop { IfErr result (StopsCommand (fmt_command words.entry) (store F.Files files.old) (store F.Files files.new)) }
-    ensures carries { IfErr result (CarriesOwn (fmt_paths (fmt_words words.entry))) }
+    ensures stop { IfErr result (IsStopped (fmt_command words.entry) (store F.Files files.old) (store F.Files files.new)) }
+    ensures carries { IfErr result (λ refusal. CarriesOwn (fmt_paths (fmt_words words.entry)) refusal.status) }
 {
-    let read = read_base(alloc, words.base, files)?;
-    let units = program_units(alloc, read.as_slice())?;
-    drop(read);
-    let FormattedFiles { texts, heights } = formatted_files(alloc, units)?;
-    check_out(alloc, words.out, files)?;
+    let base = read_clean_base(alloc, words.base, files)?;
+    match formatted(alloc, words.out, &base.table, files) {
+        Ok(work) => Ok(work),
+        Err(fault) => Err(Refusal::of(alloc, Status::from(fault))),
+    }
+}
+
+/// All that is written and printed of a program, below a folder.
+fn formatted<F: Files>(
+    alloc: Global,
+    out: &Text,
+    table: &Table,
+    files: &mut F,
+) -> Result<Work, StoreFault>
+    ensures only_reads { OnlyReads (store F.Files files.old) (store F.Files files.new) }
+    ensures ready { IfOk result IsReady }
+    ensures work { IfOk result (λ work. ForSome (F.holds files.old) (λ held. MakesFiles out.now table.now held work)) }
+    ensures stop { IfErr result (Stops (Only out.now) (store F.Files files.old) (store F.Files files.new)
+        (output_refusal out.now table.now)) }
+    ensures carries { IfErr result (λ fault. Carries (Only out.now) NoPath (IsInside out.now) (store_status fault)) }
+{
+    check_out(alloc, out, files)?;
+    let ProgramFiles { texts, heights } = program_files(alloc, table)?;
     refuse_large(texts.as_slice(), heights.as_slice())?;
-    Ok(text_work(alloc, words.out, texts)?)
+    Ok(text_work(alloc, out, texts)?)
 }
 
 /// Files in the one layout, and of each in turn the height of its tree as printed.
 #[derive(Drop)]
-struct FormattedFiles {
+struct ProgramFiles {
     texts: Vec<File>,
     heights: Vec<u32>,
 }
 
-/// The trees of a program in the one layout, under the same paths. Each is let go of once its text is made.
-fn formatted_files(alloc: Global, units: List<SourceUnit>) -> Result<FormattedFiles, OutOfMemory>
-    ensures texts { IfOk result (λ made. file_pairs made.texts.items ≡ map laid_out (files_of units)) }
-    ensures heights { IfOk result (λ made. made.heights.items ≡ map printed_height (files_of units)) }
+/// The files of a program.
+fn program_files(alloc: Global, table: &Table) -> Result<ProgramFiles, OutOfMemory>
+    ensures texts { IfOk result (λ made. file_pairs made.texts.items ≡ program_texts table.now) }
+    ensures heights { IfOk result (λ made. made.heights.items ≡ program_heights table.now) }
+{
+    let units = spell(alloc, table)?;
+    unit_files(alloc, units)
+}
+
+/// These files in the one layout. Each tree is let go of once its text is made, so that memory never holds all trees and all texts.
+fn unit_files(alloc: Global, units: List<SpeltUnit>) -> Result<ProgramFiles, OutOfMemory>
+    ensures texts { IfOk result (λ made. file_pairs made.texts.items ≡ map written_text (map printed_text (map spelled_of units))) }
+    ensures heights { IfOk result (λ made. made.heights.items ≡ map printed_height (map spelled_of units)) }
 {
     let mut texts: Vec<File> = Vec::new(alloc);
     let mut heights: Vec<u32> = Vec::new(alloc);
-    for source in units.into_vec() {
-        let SourceUnit { path, unit } = source;
-        let Formatted { text, height } = formatted_unit(alloc, unit)?;
-        let bytes = fitted(text);
-        texts.push(File { path, bytes })?;
+    for spelt in units.into_vec() {
+        let PrintedFile { file, height } = printed_file(alloc, spelt)?;
+        texts.push(file)?;
         heights.push(height)?;
     }
-    Ok(FormattedFiles { texts, heights })
+    Ok(ProgramFiles { texts, heights })
+}
+
+/// A file in the one layout, and the height of its tree as printed.
+#[derive(Drop)]
+struct PrintedFile {
+    file: File,
+    height: u32,
+}
+
+/// This file in the one layout.
+fn printed_file(alloc: Global, spelt: SpeltUnit) -> Result<PrintedFile, OutOfMemory>
+    ensures text { IfOk result (λ printed. file_pair printed.file ≡ written_text (printed_text (spelled_of spelt))) }
+    ensures height { IfOk result (λ printed. printed.height ≡ printed_height (spelled_of spelt)) }
+{
+    let SpeltUnit {
+        class: _,
+        path,
+        unit,
+    } = spelt;
+    let bytes = fitted(print(alloc, &unit)?);
+    Ok(PrintedFile {
+        file: File { path, bytes },
+        height: printed_height(&unit),
+    })
 }
 
 /// What is written and printed of these texts, below a folder.

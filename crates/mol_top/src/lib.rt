@@ -2,6 +2,7 @@
 #![tactic(auto)]
 
 mod checking;
+mod clean_base;
 mod command;
 mod fault;
 mod formatting;
@@ -13,9 +14,8 @@ mod running;
 mod status;
 mod store;
 
-pub use mol_renames::{
-    Conflict, ConflictKind, Entry, Fault, Log, LogCause, Op, RenameClass, ReplayFault,
-};
+pub use mol_faults::{Fault, Target};
+pub use mol_renames::{Conflict, ConflictKind, Entry, Log, LogCause, Op, RenameClass, ReplayFault};
 pub use report::USAGE;
 pub use running::run;
 pub use status::{BaseFault, Status};

@@ -1,8 +1,8 @@
 //! What a run prints.
 ghost use Rattle.std.specs.Prelude.{◌≡◌, ◌++◌, ◌∷◌, [], codes, IfOk, OnOk};
 ghost use Rattle.std.specs.Fmt.{decimal};
-ghost use Rattle.mol_top.specs.Report.{base_fault_text, check_report as check_report_of, fault_text, fmt_report as fmt_report_of, limit_text};
-ghost use Rattle.mol_top.specs.Report.{log_line as log_line_of, place_text, refusal_line as refusal_line_of};
+ghost use Rattle.mol_top.specs.Report.{base_line as base_line_of, check_report as check_report_of, fmt_report as fmt_report_of};
+ghost use Rattle.mol_top.specs.Report.{fault_text, limit_text, log_line as log_line_of, refusal_line as refusal_line_of, source_text};
 
 use crate::status::{BaseFault, Status};
 use mol_base::{OutOfMemory, Place, Tag, Text, Which};
@@ -34,15 +34,16 @@ pub fn fmt_report(alloc: Global, files: usize) -> Result<Vec<u8>, OutOfMemory>
     Ok(report)
 }
 
-/// The line of a refusal that names no address of a base; no byte where nothing is refused, or where it names one and its
-/// command makes it.
+/// The line of a refusal that names no address of a base; no byte where nothing is refused, or where it names one and is made where
+/// the base is at hand.
 pub fn refusal_line(alloc: Global, status: &Status) -> Result<Vec<u8>, OutOfMemory>
     ensures { IfOk result (λ line. line.items ≡ refusal_line_of status.now) }
 {
     match status {
         Status::Done | Status::Conflicts(_) => Ok(Vec::new(alloc)),
         Status::Usage => Ok(Vec::from_slice(alloc, USAGE)?),
-        Status::BaseRefused(fault) => base_line(alloc, fault),
+        Status::BaseRefused(BaseFault::Source(place, fault)) => base_line(alloc, place, fault),
+        Status::BaseRefused(BaseFault::Unclean(_)) => Ok(Vec::new(alloc)),
         Status::LogRefused(which, LogCause::SharedTag(tag)) => shared_tag_line(alloc, *which, tag),
         Status::LogRefused(_, LogCause::Replay(_)) => Ok(Vec::new(alloc)),
         Status::ReadFailed(path) => path_line(alloc, b"read-failed ", path),
@@ -65,14 +66,12 @@ fn path_line(alloc: Global, word: &[u8], path: &Text) -> Result<Vec<u8>, OutOfMe
     Ok(line)
 }
 
-/// The line of a refused base.
-fn base_line(alloc: Global, fault: &BaseFault) -> Result<Vec<u8>, OutOfMemory>
-    ensures { IfOk result (λ line. line.items ≡ codes "base " ++ base_fault_text fault.now ++ 10 ∷ []) }
+/// The line of a base whose files are no program: a place in a file, and what is wrong there.
+fn base_line(alloc: Global, place: &Place, fault: &ProgramFault) -> Result<Vec<u8>, OutOfMemory>
+    ensures { IfOk result (λ line. line.items ≡ base_line_of (source_text place.now fault.now)) }
 {
     let mut line = Vec::from_slice(alloc, b"base ")?;
-    match fault {
-        BaseFault::Source(place, fault) => push_fault(alloc, &mut line, place, fault)?,
-    }
+    push_fault(alloc, &mut line, place, fault)?;
     line.push(b'\n')?;
     Ok(line)
 }
@@ -84,7 +83,7 @@ fn push_fault(
     place: &Place,
     fault: &ProgramFault,
 ) -> Result<(), OutOfMemory>
-    ensures { OnOk result (out.new.items ≡ out.old.items ++ (place_text place.now ++ 32 ∷ fault_text fault.now)) }
+    ensures { OnOk result (out.new.items ≡ out.old.items ++ source_text place.now fault.now) }
 {
     out.extend_from_slice(place.file.bytes())?;
     out.push(b':')?;

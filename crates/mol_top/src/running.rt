@@ -4,10 +4,11 @@ ghost use Rattle.std.specs.Option.{ForSome};
 ghost use Rattle.mol_outside.specs.Contents.{Contents};
 ghost use Rattle.mol_top.specs.Carried.{CarriesOwn};
 ghost use Rattle.mol_top.specs.Command.{command, paths_of};
-ghost use Rattle.mol_top.specs.Outcome.{HasCause, WritesNothing, Says, Leaves, IsPrefix, FilesReadBack, IsSameInEitherOrder};
+ghost use Rattle.mol_top.specs.Outcome.{HasCause, WritesNothing, Says, Leaves, IsPrefix, IsSameInEitherOrder};
 ghost use Rattle.mol_top.specs.Output.{IsReady};
 ghost use Rattle.mol_top.specs.Outside.{OnlyReads, state, store};
 ghost use Rattle.mol_top.specs.Prepared.{IsStopped, Prepares};
+ghost use Rattle.mol_top.specs.ReadBack.{FilesReadBack};
 ghost use Rattle.mol_top.specs.Words.{command_of};
 
 use crate::Status;
@@ -23,11 +24,10 @@ use std::alloc::Global;
 
 /// Runs one command over a store of files and a sink for what is printed.
 ///
-/// `words` are the words after the program's name. `check BASE` tells whether the sources below BASE are a program, in which
-/// each name has a meaning. `fmt BASE OUT` writes each source of such a program in the one layout, below OUT under the same
-/// path. `merge BASE LOG1 LOG2 OUT` merges two logs over the files below BASE: it writes the merged files below OUT and then
-/// the merged log as `OUT/merged.mol`, or prints how the logs conflict. Everything that is written is made before the first
-/// write.
+/// `words` are the words after the program's name. `check BASE` tells whether the sources below BASE are a clean program: each name in
+/// them has a meaning, and keeps it in the files that the program is spelled as. `fmt BASE OUT` writes these files, in the one layout,
+/// below OUT. `merge BASE LOG1 LOG2 OUT` merges two logs over the files below BASE: it writes the merged files below OUT and then the
+/// merged log as `OUT/merged.mol`, or prints how the logs conflict. Everything that is written is made before the first write.
 pub fn run<F: Files, S: Sink>(
     alloc: Global,
     words: &List<Text>,
@@ -52,7 +52,7 @@ pub fn run<F: Files, S: Sink>(
     // A write that fails leaves a prefix.
     ensures prefix { IsPrefix (command words.now) (state F.Files S.Sink files.old out.old) (state F.Files S.Sink files.new out.new) result }
 
-    // What `fmt` writes reads back as the sources of the base, and is in the one layout itself.
+    // What `fmt` writes reads back as the trees of the program, and is in the one layout itself.
     ensures read_back { ForSome (command words.now) (λ c. (held : Contents) → FilesReadBack c held) }
 
     // The other order of the logs of a merge comes to the same.
@@ -77,13 +77,7 @@ fn prepare<F: Files>(alloc: Global, command: Command<'_>, files: &mut F) -> Resu
 {
     match command {
         Command::Merge(words) => prepare_merge(alloc, words, files),
-        Command::Check(words) => match prepare_check(alloc, words, files) {
-            Ok(work) => Ok(work),
-            Err(status) => Err(Refusal::of(alloc, status)),
-        },
-        Command::Fmt(words) => match prepare_fmt(alloc, words, files) {
-            Ok(work) => Ok(work),
-            Err(status) => Err(Refusal::of(alloc, status)),
-        },
+        Command::Check(words) => prepare_check(alloc, words, files),
+        Command::Fmt(words) => prepare_fmt(alloc, words, files),
     }
 }

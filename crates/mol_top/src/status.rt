@@ -1,17 +1,20 @@
 //! The answers of a run.
 use mol_base::{OutOfMemory, Place, Text, Which};
+use mol_faults::Fault;
 use mol_program::ProgramFault;
 use mol_renames::LogCause;
 
 /// Why a base is refused.
-#[derive(Debug, Drop)]
+#[derive(Drop)]
 pub enum BaseFault {
     /// The files are no program: the first fault, and where it is, with the path of its file relative to the base.
     Source(Place, ProgramFault),
+    /// They are a program, which is not clean: its first fault.
+    Unclean(Fault),
 }
 
 /// What a run answers. `code` is the exit status of the program.
-#[derive(Debug, Drop)]
+#[derive(Drop)]
 pub enum Status {
     /// All was written.
     Done,

@@ -67,14 +67,14 @@ fn what_is_in_the_one_layout_stays(rt: HostRuntime) -> Result<(), Fail> {
     expect(&rt, rt.alloc(), &Given::new(FMT, files.as_slice()), &wanted)
 }
 
-/// The imports ascend, comments keep their bytes, and one empty line stands between members.
+/// The imports that are needed ascend, comments keep their bytes, and one empty line stands between members.
 #[test]
 fn imports_comments_and_members_have_their_places(rt: HostRuntime) -> Result<(), Fail> {
     expect_text(
         &rt,
         rt.alloc(),
-        "// head\npackage shop; import b.B; import a.A; /* front  of\n  it */ final public class Cart { // sum\n int sum() { int n=0; return n+1; // all\n } int n; // tail\n }",
-        "// head\npackage shop;\n\nimport a.A;\nimport b.B;\n\n/* front  of\n  it */\npublic final class Cart {\n    // sum\n    int sum() {\n        int n = 0;\n        return n + 1;\n        // all\n    }\n\n    int n;\n\n    // tail\n}\n",
+        "// head\npackage shop; import b.B; import a.A; /* front  of\n  it */ final public class Cart { // sum\n int sum() { int n=0; return n+1; // all\n } A a; B b; // tail\n }",
+        "// head\npackage shop;\n\nimport a.A;\nimport b.B;\n\n/* front  of\n  it */\npublic final class Cart {\n    // sum\n    int sum() {\n        int n = 0;\n        return n + 1;\n        // all\n    }\n\n    A a;\n\n    B b;\n\n    // tail\n}\n",
     )
 }
 

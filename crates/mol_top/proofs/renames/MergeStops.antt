@@ -29,7 +29,7 @@ use Rattle.mol_renames.specs.declared.log_cause.LogCause.TheVariants.{SharedTag,
 use Rattle.mol_renames.specs.declared.log_cause.ReplayFault.TheVariants.{NotClean}
 use Rattle.mol_top.specs.declared.status.Status.{Status}
 use Rattle.mol_top.specs.declared.status.Status.TheVariants.{LogRefused, Missing, NotBuilt, OutInUse, OutOfMemory as no_memory}
-use Rattle.mol_top.proofs.Stopping.{either_stops, plain_line}
+use Rattle.mol_top.proofs.Stopping.{either_stops, plain_line, said_plain, store_plain}
 
 abbrev of_logs : MergeWords → Contents → Option Status
 of_logs w h = logs_refusal (base_of w h) (log_at w h w.first) (log_at w h w.second)
@@ -58,16 +58,8 @@ reading_cause w old new (faults.Store (stores.Limit limit)) stops = λ h e. refu
 reading_cause w old new (faults.NotBuilt p) stops = λ h e. refused_input w h (NotBuilt p) (stops h e)
 
 plain : (fault : InputFault) → names_addresses (input_status fault) ≡ false
-plain (faults.Store stores.OutOfMemory) = refl
-plain (faults.Store (stores.ReadFailed p)) = refl
-plain (faults.Store (stores.Missing p)) = refl
-plain (faults.Store (stores.OutInUse p)) = refl
-plain (faults.Store (stores.Limit limit)) = refl
+plain (faults.Store fault) = store_plain fault
 plain (faults.NotBuilt p) = refl
-
-said_plain : (s said : Status) → names_addresses s ≡ false → (said ≡ s) ⊎ (said ≡ no_memory) → names_addresses said ≡ false
-said_plain s said plain (inl is) = ap names_addresses is ∙ plain
-said_plain s said plain (inr is) = ap names_addresses is
 
 pub stopped_reading : (w : MergeWords) (old new : Store) (fault : InputFault) (refusal : Refusal) → StopsInputs w old new fault
     → (refusal.status ≡ input_status fault) ⊎ (refusal.status ≡ no_memory) → line_bytes refusal.line ≡ refusal_line refusal.status → IsStopped (Command.merge w) old new refusal
@@ -97,7 +89,8 @@ any_base base s plain = refl
 
 by_names : (b : Bool) (w : MergeWords) (store : Store) (inputs : Inputs) (refusal : Refusal) → names_addresses refusal.status ≡ b → ForSome store.held (λ h. HasInputs w h inputs)
     → line_bytes refusal.line ≡ merge_line inputs.base refusal.status → ByNames b (Some (Command.merge w)) store refusal.status (λ line. line_bytes refusal.line ≡ line)
-by_names true w store inputs refusal names has is = λ h e. is ∙ ap (λ base. merge_line base refusal.status) (has h e).base
+by_names true w store inputs refusal names has is =
+    λ h e. (line_bytes refusal.line, is ∙ ap (λ base. merge_line base refusal.status) (has h e).base, refl)
 by_names false w store inputs refusal names has is = is ∙ any_base inputs.base refusal.status names
 
 pub stopped_merging : (w : MergeWords) (old new : Store) (inputs : Inputs) (fault : MergeFault) (refusal : Refusal) → ForSome old.held (λ h. HasInputs w h inputs)

@@ -1,5 +1,5 @@
 package shop;
-import shop.goods.Item; import java.util.List;
+import shop.goods.Item; import java.util.List; import java.util.Date;
 
 public class Till
 {
@@ -8,7 +8,7 @@ public class Till
 	/* Adds an item, and
 	   counts it twice on Sundays. */
 	public void add(Item item, boolean sunday) {
-		if (sunday) total += 2*(item.price()); else {
+		if (sunday) this.total += 2*(item.price()); else {
 		total += (item.price());
 		}
 		// now it is there

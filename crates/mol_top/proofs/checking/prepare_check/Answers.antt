@@ -1,19 +1,26 @@
+use Rattle.std.proofs.Common.{inl}
 use Rattle.std.proofs.lemmas.Result.{err_from_is_err_and}
-use Rattle.mol_top.specs.Command.{Command}
+use Rattle.mol_top.proofs.BaseStops.{base_stopped}
+use Rattle.mol_top.proofs.CheckedBases.{check_prepared}
+use Rattle.mol_top.proofs.ReadBases.{base_carries}
+use Rattle.mol_top.proofs.checking.prepare_check.Goals as goal
+use Rattle.mol_top.specs.Command.{Command, check_paths}
 use Rattle.mol_top.specs.Outside.{store}
 use Rattle.mol_top.specs.Words.{check_words}
-use Rattle.mol_top.proofs.CheckedFiles.{check_prepared, files_stop}
-use Rattle.mol_top.proofs.checking.prepare_check.Goals as goal
 
-pub returns-in_err-check_files-clause-stop : goal.returns-in_err-check_files-clause-stop
-returns-in_err-check_files-clause-stop g c =
+pub returns-in_err-base-clause-stop : goal.returns-in_err-base-clause-stop
+returns-in_err-base-clause-stop g c =
     let w = check_words c.args.words in
-    let p = err_from_is_err_and c.from_residual-in_err-check_files.result c.from_residual-in_err-check_files.ensures.1 in
-    rw (p.1, p.2) (files_stop w.base (store g.F.Files c.args.files.now) c.in_ok-read.read.items c.in_ok-read.ensures.base (Command.check w) (store g.F.Files c.read_base.new.files) _
-    (λ h s refuses. refuses) (rw c.as_slice.ensures.value at c.in_err-check_files.ensures.fault))
+    let p = err_from_is_err_and c.from_residual.result c.from_residual.ensures.1 in
+    rw (p.1, p.2) (base_stopped (Command.check w) w.base (store g.F.Files c.args.files.now) (store g.F.Files c.read_clean_base.new.files) _
+    (λ h s refuses. refuses) (λ h s line is. is) (λ path below. inl below) c.in_err-base.ensures.stop)
 
-pub returns-clause-work : goal.returns-clause-work
-returns-clause-work g c =
-    let w = check_words c.args.words in
-    check_prepared w (store g.F.Files c.args.files.now) c.in_ok-read.read.items c.in_ok-check_work.field-0 c.in_ok-read.ensures.base
-    (rw c.as_slice.ensures.value at c.in_ok-check_files.ensures.program) (rw (c.len.ensures, c.in_ok-read.read.ok.0) at c.in_ok-check_work.ensures)
+pub returns-in_err-base-clause-carries : goal.returns-in_err-base-clause-carries
+returns-in_err-base-clause-carries g c =
+    let p = err_from_is_err_and c.from_residual.result c.from_residual.ensures.1 in
+    rw (p.1, p.2) (base_carries (check_paths (check_words c.args.words)) _ c.in_err-base.ensures.carries)
+
+pub returns-in-Ok-clause-work : goal.returns-in-Ok-clause-work
+returns-in-Ok-clause-work g c =
+    check_prepared (check_words c.args.words) (store g.F.Files c.args.files.now) c.in_ok-base.base c.in-Ok.work c.in_ok-base.ensures.base
+    c.in-Ok.ensures

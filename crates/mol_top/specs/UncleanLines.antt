@@ -1,0 +1,21 @@
+-- The lines of bases that are programs and not clean. They name addresses of the base.
+use Rattle.std.specs.Prelude.{◌≡◌, ℕ, List}
+use Rattle.mol_fault.specs.Kept.{kept_fault}
+use Rattle.mol_outside.specs.Contents.{Contents}
+use Rattle.mol_report.specs.FaultText.{fault_text}
+use Rattle.mol_table.specs.Program.{Program}
+use Rattle.mol_top.specs.Bases.{IsBaseOf}
+use Rattle.mol_top.specs.Report.{base_line, refusal_line}
+use Rattle.mol_top.specs.declared.status.BaseFault.TheVariants.{Unclean}
+use Rattle.mol_top.specs.declared.status.Status.{Status}
+use Rattle.mol_top.specs.declared.status.Status.TheVariants.{BaseRefused}
+
+-- over the program that the files of a base are
+abbrev pub program_line : Program → Status → List ℕ
+program_line program (BaseRefused (Unclean fault)) = base_line (fault_text program (kept_fault fault))
+program_line program status = refusal_line status
+
+pub record IsProgramLine (base : List ℕ) (held : Contents) (status : Status) (line : List ℕ) : Type 0 where
+  pub program : Program
+  pub base_of : IsBaseOf base held program
+  pub is : line ≡ program_line program status

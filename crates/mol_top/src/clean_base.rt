@@ -1,0 +1,116 @@
+//! Bases that are clean programs.
+ghost use Rattle.std.specs.Prelude.{◌≡◌, IfErr, IfOk, OnOk, Some};
+ghost use Rattle.std.specs.Option.{ForSome};
+ghost use Rattle.mol_fault.specs.Kept.{kept_fault};
+ghost use Rattle.mol_faults.specs.First.{IsFirst};
+ghost use Rattle.mol_files.specs.Files.{ArePathsApart, AreSmall, file_pairs};
+ghost use Rattle.mol_report.specs.FaultText.{fault_text};
+ghost use Rattle.mol_spelling.specs.Clean.{Clean};
+ghost use Rattle.mol_table.specs.Rules.{IsProgram as KeepsRules};
+ghost use Rattle.mol_top.specs.CleanBases.{CarriesBase, IsBaseStopped, IsCleanOf, IsReadOf};
+ghost use Rattle.mol_top.specs.Outside.{OnlyReads, store};
+ghost use Rattle.mol_top.specs.Refused.{IsRefusalOfFiles, IsRefusalOfProgram};
+ghost use Rattle.mol_top.specs.Report.{base_line};
+
+use crate::refusal::{Line, Refusal};
+use crate::status::{BaseFault, Status};
+use crate::store::read_base;
+use mol_base::{File, OutOfMemory, Text};
+use mol_faults::{Fault, first_fault};
+use mol_outside::Files;
+use mol_program::read_program;
+use mol_report::fault_line;
+use mol_table::Table;
+use std::alloc::Global;
+
+/// The clean program that the sources below a folder are.
+#[derive(Drop)]
+pub struct CleanBase {
+    pub table: Table,
+    /// How many files there are.
+    pub files: usize,
+}
+
+/// The program of a base.
+///
+/// Refuses, in this order, what the reading of a base refuses, the first file that is no source, the first fault of names, and the first of
+/// the faults for which the program is not clean. The time is near-linear in the bytes of the sources, and for each look-up of a member in
+/// the classes that it goes up.
+pub fn read_clean_base<F: Files>(
+    alloc: Global,
+    base: &Text,
+    files: &mut F,
+) -> Result<CleanBase, Refusal>
+    ensures only_reads { OnlyReads (store F.Files files.old) (store F.Files files.new) }
+    ensures base { IfOk result (λ read. ForSome (F.holds files.old) (λ held. IsReadOf base.now held read)) }
+    ensures stop { IfErr result (IsBaseStopped base.now (store F.Files files.old) (store F.Files files.new)) }
+    ensures carries { IfErr result (λ refusal. CarriesBase base.now refusal.status) }
+{
+    match read_base(alloc, base, files) {
+        Ok(read) => clean_base(alloc, read.as_slice()),
+        Err(fault) => Err(Refusal::of(alloc, Status::from(fault))),
+    }
+}
+
+/// The program of these files.
+fn clean_base(alloc: Global, read: &[File]) -> Result<CleanBase, Refusal>
+    requires small { AreSmall read.now }
+    requires apart { ArePathsApart (file_pairs read.now) }
+    ensures program { IfOk result (IsCleanOf (file_pairs read.now)) }
+    ensures stop { IfErr result (IsRefusalOfFiles (file_pairs read.now)) }
+{
+    match read_program(alloc, read) {
+        Ok(table) => {
+            rules(&table);
+            refuse_unclean(alloc, &table)?;
+            Ok(CleanBase {
+                table,
+                files: read.len(),
+            })
+        }
+        Err(fault) => Err(Refusal::of(alloc, Status::from(fault))),
+    }
+}
+
+/// The rules of programs hold of each table. The call does nothing.
+fn rules(table: &Table)
+    ensures { KeepsRules table.now }
+{
+    let _ = table.ids();
+}
+
+/// Refuses a program that is not clean, for its first fault.
+fn refuse_unclean(alloc: Global, table: &Table) -> Result<(), Refusal>
+    ensures clean { OnOk result (Clean table.now) }
+    ensures stop { IfErr result (IsRefusalOfProgram table.now) }
+{
+    match first_fault(alloc, table) {
+        Ok(None) => Ok(()),
+        Ok(Some(fault)) => Err(unclean(alloc, table, fault)),
+        Err(OutOfMemory) => Err(Refusal::out_of_memory()),
+    }
+}
+
+/// The refusal of a program for a fault. Its line names addresses of the program.
+fn unclean(alloc: Global, table: &Table, fault: Fault) -> Refusal
+    requires { IsFirst table.now (Some (kept_fault fault)) }
+    ensures { IsRefusalOfProgram table.now result }
+{
+    match unclean_line(alloc, table, &fault) {
+        Ok(line) => Refusal {
+            status: Status::BaseRefused(BaseFault::Unclean(fault)),
+            line: Line::Made(line),
+        },
+        Err(OutOfMemory) => Refusal::out_of_memory(),
+    }
+}
+
+/// The line of a program that is refused for a fault.
+fn unclean_line(alloc: Global, table: &Table, fault: &Fault) -> Result<Vec<u8>, OutOfMemory>
+    ensures { IfOk result (λ line. line.items ≡ base_line (fault_text table.now (kept_fault fault.now))) }
+{
+    let mut line = Vec::from_slice(alloc, b"base ")?;
+    line.extend_from_slice(fault_line(alloc, table, fault)?.items())?;
+    line.push(b'\n')?;
+    Ok(line)
+}

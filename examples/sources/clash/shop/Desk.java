@@ -1,0 +1,7 @@
+package shop;
+
+public class Desk {
+    public int fee(int amount) {
+        return amount;
+    }
+}
