@@ -1,6 +1,7 @@
 pub mod CutNames
 pub mod FollowersKept
 pub mod ModeFree
+pub mod NamesAdded
 pub mod Nodes
 pub mod NotedMore
 pub mod ReadHere

@@ -133,21 +133,21 @@ module _ (writer : Writer) (locals : Locals Id) (e : IExpr) where
   pub says-This : e ≡ exprs.This → Says None [] (class_value writer.reader.class)
   says-This is = by_node IExpr-F.This None _ _ (is ∙ sym exprs.rolls-This) refl refl
 
-  pub says-Local : (number : ℕ) → e ≡ exprs.Local number
-      → Says None (local_reference writer locals number ∷ []) (local_value writer locals number)
-  says-Local number is = by_node (IExpr-F.Local number) None _ _ (is ∙ sym (exprs.rolls-Local number)) refl refl
+  pub says-Local : (number : ℕ) (mode : Mode) → e ≡ exprs.Local number
+      → Says mode (local_reference writer locals number mode ∷ []) (local_value writer locals number)
+  says-Local number mode is = by_node (IExpr-F.Local number) mode _ _ (is ∙ sym (exprs.rolls-Local number)) refl refl
 
-  pub says-Param : (id : Id) → e ≡ exprs.Param id
-      → Says None (param_reference writer locals id ∷ []) (param_value writer.program id)
-  says-Param id is = by_node (IExpr-F.Param id) None _ _ (is ∙ sym (exprs.rolls-Param id)) refl refl
+  pub says-Param : (id : Id) (mode : Mode) → e ≡ exprs.Param id
+      → Says mode (param_reference writer locals id mode ∷ []) (param_value writer.program id)
+  says-Param id mode is = by_node (IExpr-F.Param id) mode _ _ (is ∙ sym (exprs.rolls-Param id)) refl refl
 
-  pub says-Own : (field : Id) → e ≡ exprs.Own field
-      → Says None (field_reference writer locals (own_form writer locals field) field None ∷ []) (field_value writer.program field)
-  says-Own field is = by_node (IExpr-F.Own field) None _ _ (is ∙ sym (exprs.rolls-Own field)) refl refl
+  pub says-Own : (field : Id) (mode : Mode) → e ≡ exprs.Own field
+      → Says mode (field_reference writer locals (own_form writer locals field) field mode ∷ []) (field_value writer.program field)
+  says-Own field mode is = by_node (IExpr-F.Own field) mode _ _ (is ∙ sym (exprs.rolls-Own field)) refl refl
 
-  pub says-StaticField : (field : Id) → e ≡ exprs.StaticField field
-      → Says None (field_reference writer locals (static_form writer locals field) field None ∷ []) (field_value writer.program field)
-  says-StaticField field is = by_node (IExpr-F.StaticField field) None _ _ (is ∙ sym (exprs.rolls-StaticField field)) refl refl
+  pub says-StaticField : (field : Id) (mode : Mode) → e ≡ exprs.StaticField field
+      → Says mode (field_reference writer locals (static_form writer locals field) field mode ∷ []) (field_value writer.program field)
+  says-StaticField field mode is = by_node (IExpr-F.StaticField field) mode _ _ (is ∙ sym (exprs.rolls-StaticField field)) refl refl
 
   pub says-NewDefault : (class : Id) → e ≡ exprs.NewDefault class
       → Says None (created_class_reference writer locals (default_target class) class 0 ∷ []) (class_value class)

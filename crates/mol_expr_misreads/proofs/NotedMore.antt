@@ -1,14 +1,18 @@
 -- Names that are noted, some after others.
-use Rattle.std.proofs.Common.{◌≡◌, ℕ, suc, ◌+◌, ◌<◌, ◌≤◌, Bool, true, false, cond, ◌&&◌, not, List, [], ◌∷◌, ◌++◌, length, take, get_or, refl, sym, ◌∙◌, ap, append_assoc}
+use Rattle.std.proofs.Common.{◌≡◌, ℕ, suc, ◌+◌, ◌<◌, ◌≤◌, Bool, true, false, cond, ◌&&◌, not, List, [], ◌∷◌, ◌++◌, length, take, get_or, Option, None, Some, if◌then◌else◌, refl, sym, ◌∙◌, ap, append_assoc}
 use Rattle.std.proofs.lemmas.List.{append-nil, take_all, take_more}
 use Rattle.std.specs.List.{flat_map}
+use Rattle.std.specs.Option.{option_and_then}
 use Rattle.mol_base.specs.declared.ident.Id.{Id}
 use Rattle.jav_view.specs.OnValues.{StaticType}
 use Rattle.mol_asked.specs.Answers.{is_answer}
-use Rattle.mol_expr_misreads.specs.Noted.{Noted, note, noted_after}
+use Rattle.mol_expr_misreads.specs.Noted.{Noted, misreading, note, noted_after}
+use Rattle.mol_expr_misreads.specs.Readings.{program_target}
+use Rattle.mol_references.specs.References.{Target}
 use Rattle.mol_spelling.specs.Answers.{answered}
-use Rattle.mol_spelling.specs.FaultList.{fault_target}
+use Rattle.mol_spelling.specs.FaultList.{FaultTarget, fault_target}
 use Rattle.mol_spelling.specs.NameFaults.{is_gone}
+use Rattle.mol_spelling.specs.ReadInstead.{instead}
 use Rattle.mol_spelling.specs.Writers.{Reference, Writer}
 
 module _ (writer : Writer) where
@@ -45,7 +49,7 @@ module _ (writer : Writer) where
   abbrev chosen : Noted → Reference → Bool → Noted
   chosen noted reference misread = record {
     count = suc noted.count;
-    misread = cond misread (noted.misread ++ (noted.count, fault_target reference.target) ∷ []) noted.misread;
+    misread = cond misread (noted.misread ++ misreading writer noted.count reference ∷ []) noted.misread;
   }
 
   -- it reads as what it is the name of
@@ -63,12 +67,21 @@ module _ (writer : Writer) where
   note-gone noted reference is = ap (chosen noted reference)
       (sym (ap (λ b. not b && not (is_answer reference.target (answered writer.reader reference))) is))
 
+  abbrev pub one_more : Noted → FaultTarget → Option Target → Option Target → Noted
+  one_more noted target named instead_of = record {
+    count = suc noted.count;
+    misread = noted.misread ++ record { number = noted.count; target = target; named = named; instead = instead_of } ∷ [];
+  }
+
   -- it reads as something else that is there
-  pub note-misread : (noted : Noted) (reference : Reference) → is_gone writer.program reference.target ≡ false
-      → is_answer reference.target (answered writer.reader reference) ≡ false
-      → record { count = suc noted.count; misread = noted.misread ++ (noted.count, fault_target reference.target) ∷ [] }
-      ≡ note writer noted reference
-  note-misread noted reference there differs = ap (chosen noted reference) (λ i. not (sym there i) && not (sym differs i))
+  pub note-misread : (noted : Noted) (reference : Reference) (target : FaultTarget) (named instead_of : Option Target)
+      → is_gone writer.program reference.target ≡ false → is_answer reference.target (answered writer.reader reference) ≡ false
+      → target ≡ fault_target reference.target → named ≡ program_target reference.target
+      → instead_of ≡ option_and_then program_target (instead writer.reader reference)
+      → one_more noted target named instead_of ≡ note writer noted reference
+  note-misread noted reference target named instead_of there differs is_target is_named is_instead =
+      (λ i. one_more noted (is_target i) (is_named i) (is_instead i))
+      ∙ ap (chosen noted reference) (λ i. not (sym there i) && not (sym differs i))
 
   -- ---- several
 
@@ -88,3 +101,23 @@ module _ (writer : Writer) where
     pub noted-whole : (xs : List A) (i : ℕ) (before after : Noted) → length xs ≤ i
         → after ≡ noted_after writer before (flat_map of (take i xs)) → after ≡ noted_after writer before (flat_map of xs)
     noted-whole xs i before after past is = is ∙ ap (λ xs. noted_after writer before (flat_map of xs)) (take_all i xs past)
+
+-- ---- how a name reads
+
+-- as its target
+pub named-so : (b : Bool) (instead_of : Option Target) → None ≡ (if b then None else Some instead_of) → b ≡ true
+named-so true instead_of is = refl
+named-so false instead_of is = absurd cc
+
+-- as something else
+pub instead-so : (b : Bool) (kept instead_of : Option Target) → Some kept ≡ (if b then None else Some instead_of)
+    → (b ≡ false) × (kept ≡ instead_of)
+instead-so true kept instead_of is = absurd cc
+instead-so false kept instead_of is = (refl, let same : kept ≡ instead_of = cc in same)
+
+pub as-named : (b : Bool) (instead_of : Option Target) → b ≡ true → None ≡ (if b then None else Some instead_of)
+as-named b instead_of is = ap (λ b. if b then None else Some instead_of) (sym is)
+
+pub as-instead : (b : Bool) (kept instead_of : Option Target) → b ≡ false → kept ≡ instead_of
+    → Some kept ≡ (if b then None else Some instead_of)
+as-instead b kept instead_of is same = ap Some same ∙ ap (λ b. if b then None else Some instead_of) (sym is)

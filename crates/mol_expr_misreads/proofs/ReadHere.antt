@@ -1,35 +1,50 @@
 -- What is read at the place where it is written.
-use Rattle.std.proofs.Common.{◌≡◌, ℕ, Bool, true, false, [], Option, None, Some, refl, sym, ◌∙◌, ap, slice_get, if◌then◌else◌}
+use Rattle.std.proofs.Common.{◌≡◌, ℕ, Bool, true, false, [], Option, None, Some, refl, sym, ◌∙◌, ap, subst, slice_get, if◌then◌else◌}
 use Rattle.std.proofs.lemmas.Option.{slice_get-map}
 use Rattle.std.specs.Option.{option_map, option_map_or}
 use Rattle.jav_view.proofs.CutNames.{names_cut}
 use Rattle.jav_view.specs.DottedNames.{cut}
 use Rattle.jav_view.specs.OnValues.{StaticType, mixed_value}
 use Rattle.jav_view.specs.StaticTypes.{of_type}
-use Rattle.mol_asked.specs.Answers.{is_answer}
-use Rattle.mol_asked.specs.Places.{reader_of}
+use Rattle.mol_asked.specs.Places.{IsAt, reader_of}
 use Rattle.mol_asked.specs.declared.place.NamePlace.{NamePlace}
 use Rattle.mol_base.specs.declared.ident.Id.{Id}
-use Rattle.mol_body_locals.specs.Kept.{Kept, local_of}
+use Rattle.mol_body_locals.specs.Kept.{Kept, local_of, locals_of}
 use Rattle.mol_body_locals.specs.declared.body_local.BodyLocal.{BodyLocal}
 use Rattle.mol_expr_misreads.specs.Names.{local_value}
 use Rattle.mol_expr_misreads.specs.Paths.{names_of}
 use Rattle.mol_expr_misreads.specs.Places.{AreReadAt}
+use Rattle.mol_expr_misreads.specs.Readings.{reads_as}
 use Rattle.mol_expr_misreads.specs.declared.spelled.Spelled.{Spelled}
+use Rattle.mol_instead.specs.Kept.{locals_at, reader_at, IsPlace}
+use Rattle.mol_instead.specs.declared.place.InsteadPlace.{InsteadPlace}
 use Rattle.mol_references.specs.References.{Target}
 use Rattle.mol_spell.specs.Locals.{Local, Locals}
 use Rattle.mol_spell.specs.ProgramViews.{seen}
 use Rattle.mol_spell.specs.Readers.{Reader}
-use Rattle.mol_spelling.specs.Answers.{answer}
 use Rattle.mol_spelling.specs.Writers.{Asked, Writer, text_of}
 
 module _ (writer : Writer) (locals : Locals Id) (place : NamePlace) (kept : Kept) (at : AreReadAt writer locals place kept) where
   -- what reads as its target at the place does so where it is written
-  pub reads-so : (given target : Target) (reads : Bool) (around : Locals Id) (asked shown : Asked)
-      → reads ≡ is_answer given (answer (reader_of place) around asked) → given ≡ target → asked ≡ shown
-      → reads ≡ is_answer target (answer writer.reader around shown)
+  pub reads-so : (given target : Target) (reads : Option (Option Target)) (around : Locals Id) (asked shown : Asked)
+      → reads ≡ reads_as (reader_of place) around given asked → given ≡ target → asked ≡ shown
+      → reads ≡ reads_as writer.reader around target shown
   reads-so given target reads around asked shown is named same =
-      is ∙ (λ i. is_answer (named i) (answer (sym at.reader i) around (same i)))
+      is ∙ (λ i. reads_as (sym at.reader i) around (named i) (same i))
+
+  -- the names and numbers of variables there are those of its locals and parameters
+  pub is-place : (instead : InsteadPlace) → instead.names.now ≡ place → instead.locals.now ≡ kept → IsPlace instead
+  is-place instead names locals = subst (λ (place : NamePlace). IsAt place (locals_of instead.locals.now)) (sym names)
+      (subst (λ (kept : Kept). IsAt place (locals_of kept)) (sym locals) (subst (IsAt place) at.locals_are at.at))
+
+  -- so does what reads so beside these locals
+  pub reads-there : (instead : InsteadPlace) → instead.names.now ≡ place → instead.locals.now ≡ kept
+      → (given target : Target) (reads : Option (Option Target)) (asked shown : Asked)
+      → reads ≡ reads_as (reader_at instead) (locals_at instead) given asked → given ≡ target → asked ≡ shown
+      → reads ≡ reads_as writer.reader locals target shown
+  reads-there instead names are given target reads asked shown is named same =
+      is ∙ (λ i. reads_as (reader_of (names i)) (locals_of (are i)) given asked)
+      ∙ (λ i. reads_as (sym at.reader i) (sym at.locals_are i) (named i) (same i))
 
   pub class-is : place.variables.class ≡ writer.reader.class
   class-is = sym (ap (λ (reader : Reader Id Id). reader.class) at.reader)

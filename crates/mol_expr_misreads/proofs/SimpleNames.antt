@@ -10,10 +10,12 @@ use Rattle.mol_asked.specs.Places.{reader_of}
 use Rattle.mol_asked.specs.declared.place.NamePlace.{NamePlace}
 use Rattle.mol_base.specs.declared.ident.Id.{Id}
 use Rattle.mol_expr_misreads.proofs.NotedMore.{note-reads}
+use Rattle.mol_expr_misreads.proofs.VariableModes.{field-variable, reads-alike}
 use Rattle.mol_expr_misreads.specs.Noted.{Noted, note}
 use Rattle.mol_references.specs.References.{field_target, local_target, method_target, param_target}
 use Rattle.mol_spell.specs.Locals.{Locals}
 use Rattle.mol_spell.specs.Readers.{Parameter, Reader, place_of}
+use Rattle.mol_spell.specs.ReadTrees.{Mode}
 use Rattle.mol_spelling.specs.Answers.{answered, call_answer, name_answer}
 use Rattle.mol_spelling.specs.SpelledExpressions.{MemberForm, by_name, call_reference, field_reference, is_declaration_of, is_field, name_of, reads_field, reads_method}
 use Rattle.mol_spelling.specs.Writers.{Reference, Writer}
@@ -44,11 +46,17 @@ module _ (reader : Reader Id Id) (locals : Locals Id) (id : Id) (name : Name) wh
   method-found not_found = refl
 
 module _ (writer : Writer) (locals : Locals Id) where
-  pub field-reads : (place : NamePlace) → writer.reader ≡ reader_of place → (field : Id) → reads_field writer locals field
+  field-alone : (place : NamePlace) → writer.reader ≡ reader_of place → (field : Id) → reads_field writer locals field
       ≡ is_answer (field_target field) (answered writer.reader (field_reference writer locals by_name field None))
-  field-reads place is field = field-found writer.reader locals field (name_of writer locals field)
+  field-alone place is field = field-found writer.reader locals field (name_of writer locals field)
       (ap (λ (reader : Reader Id Id). reader.ids.member_id) is)
       (variable writer.reader.view (place_of writer.reader locals) (name_of writer locals field))
+
+  pub field-reads : (place : NamePlace) → writer.reader ≡ reader_of place → (field : Id) (mode : Mode) → reads_field writer locals field
+      ≡ is_answer (field_target field) (answered writer.reader (field_reference writer locals by_name field mode))
+  field-reads place is field None = field-alone place is field
+  field-reads place is field (Some follow) = field-alone place is field
+      ∙ reads-alike writer.reader locals (field_target field) (field-variable field) (name_of writer locals field) follow
 
   pub method-reads : (method : Id) (arity : ℕ) → reads_method writer locals method arity
       ≡ is_answer (method_target method) (answered writer.reader (call_reference writer locals by_name method arity))
@@ -67,6 +75,3 @@ module _ (writer : Writer) (of : MemberForm → Reference) (otherwise : MemberFo
 
   pub otherwise-is : reads ≡ false → chosen reads ≡ of otherwise
   otherwise-is not_so = ap chosen not_so
-
-  pub misread-simply : reads ≡ false → false ≡ is_answer (of by_name).target (answered writer.reader (of by_name))
-  misread-simply not_so = sym not_so ∙ is

@@ -8,7 +8,7 @@ use Rattle.jav_view.specs.Variables.{Variable}
 use Rattle.jav_view.specs.Views.{Classes, Found, found, outside, not_found}
 use Rattle.mol_asked.specs.Answers.{is_answer}
 use Rattle.mol_base.specs.declared.ident.Id.{Id}
-use Rattle.mol_references.specs.References.{Target, class_target, field_target, local_target, outside_target, param_target}
+use Rattle.mol_references.specs.References.{Target, class_target, field_target, outside_target}
 use Rattle.mol_spell.specs.Locals.{Locals}
 use Rattle.mol_spell.specs.Readers.{Reader, place_of}
 use Rattle.mol_spelling.specs.Answers.{answer, before_answer, name_answer}
@@ -18,12 +18,6 @@ use Rattle.mol_spelling.specs.Writers.{name_asked, name_before_asked}
 pub record IsVariable (target : Target) : Type 0 where
   pub no_class : (class : Id) → is_answer target (Some (class_target class)) ≡ false
   pub not_outside : (text : Name) → is_answer target (Some (outside_target text)) ≡ false
-
-pub local-variable : (number : ℕ) → IsVariable (local_target number)
-local-variable number = record { no_class = λ class. refl; not_outside = λ text. refl }
-
-pub param-variable : (id : Id) → IsVariable (param_target id)
-param-variable id = record { no_class = λ class. refl; not_outside = λ text. refl }
 
 pub field-variable : (id : Id) → IsVariable (field_target id)
 field-variable id = record { no_class = λ class. refl; not_outside = λ text. refl }

@@ -3,4 +3,5 @@ pub mod Names
 pub mod Noted
 pub mod Paths
 pub mod Places
+pub mod Readings
 pub mod References

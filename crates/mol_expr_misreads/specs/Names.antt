@@ -9,7 +9,7 @@ use Rattle.mol_references.specs.References.{Target, field_target, index_target, 
 use Rattle.mol_spell.specs.Locals.{Local, Locals}
 use Rattle.mol_spell.specs.ReadTrees.{Mode}
 use Rattle.mol_spelling.specs.SpelledExpressions.{asks_name, asks_outside, class_text, importable_names, local_text, name_of, param_name, plain, reference, using}
-use Rattle.mol_spelling.specs.Writers.{Reference, Writer, call_asked, constructor_asked, field_asked, index_asked, method_asked, name_asked, outside_import, program_class, super_method_asked, written_use}
+use Rattle.mol_spelling.specs.Writers.{Reference, Writer, call_asked, constructor_asked, field_asked, index_asked, method_asked, outside_import, program_class, super_method_asked, written_use}
 
 -- the static type of what a constructor of this class creates
 abbrev pub created_value : Option Id → StaticType Id
@@ -18,15 +18,15 @@ created_value class = option_map_or (λ class. class_value class) class mixed_va
 module _ (writer : Writer) (locals : Locals Id) where
   -- ---- variables, and what is outside
 
-  abbrev pub local_reference : ℕ → Reference
-  local_reference number = plain writer locals (local_target number) (name_asked (local_text locals number))
+  abbrev pub local_reference : ℕ → Mode → Reference
+  local_reference number mode = plain writer locals (local_target number) (asks_name writer locals (local_text locals number) mode)
 
   abbrev pub local_value : ℕ → StaticType Id
   local_value number =
       option_map_or (λ type. of_type type) (slice_get (map (λ (local : Local Id). local.type) locals.declared) number) mixed_value
 
-  abbrev pub param_reference : Id → Reference
-  param_reference id = plain writer locals (param_target id) (name_asked (param_name writer locals id))
+  abbrev pub param_reference : Id → Mode → Reference
+  param_reference id mode = plain writer locals (param_target id) (asks_name writer locals (param_name writer locals id) mode)
 
   abbrev pub name_reference : Name → Mode → Reference
   name_reference name mode =

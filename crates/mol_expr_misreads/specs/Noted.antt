@@ -1,20 +1,31 @@
 -- Which of several names read as something else than what they are the names of.
-use Rattle.std.specs.Prelude.{◌≡◌, ℕ, suc, Bool, ◌&&◌, not, List, [], ◌∷◌, ◌++◌, if◌then◌else◌}
+use Rattle.std.specs.Prelude.{◌≡◌, ℕ, suc, Bool, ◌&&◌, not, List, [], ◌∷◌, ◌++◌, Option, if◌then◌else◌}
 use Rattle.std.specs.List.{fold}
+use Rattle.std.specs.Option.{option_and_then}
 use Rattle.mol_base.specs.declared.ident.Id.{Id}
 use Rattle.jav_view.specs.OnValues as value
 use Rattle.mol_asked.specs.Answers.{is_answer}
+use Rattle.mol_expr_misreads.specs.Readings.{program_target}
+use Rattle.mol_references.specs.References.{Target}
 use Rattle.mol_spelling.specs.Answers.{answered}
 use Rattle.mol_spelling.specs.FaultList.{FaultTarget, fault_target}
 use Rattle.mol_spelling.specs.NameFaults.{is_gone}
+use Rattle.mol_spelling.specs.ReadInstead.{instead}
 use Rattle.mol_spelling.specs.Writers.{Reference, Writer}
 use Rattle.mol_types.specs.Kept.{view_value}
 use Rattle.mol_types.specs.declared.static_type.StaticType.{StaticType}
 
--- How many names there are up to a place, and of those that are misread the number, from 0, and the target.
+-- A name that is misread: its number, from 0, and the target; and what of the program it is the name of, and what it reads as instead.
+pub record Misreading : Type 0 where
+  pub number : ℕ
+  pub target : FaultTarget
+  pub named : Option Target
+  pub instead : Option Target
+
+-- How many names there are up to a place, and which of them are misread.
 pub record Noted : Type 0 where
   pub count : ℕ
-  pub misread : List (ℕ × FaultTarget)
+  pub misread : List Misreading
 
 abbrev pub none_noted : Noted
 none_noted = record { count = 0; misread = [] }
@@ -24,10 +35,18 @@ abbrev pub is_misread : Writer → Reference → Bool
 is_misread writer reference =
     not (is_gone writer.program reference.target) && not (is_answer reference.target (answered writer.reader reference))
 
+abbrev pub misreading : Writer → ℕ → Reference → Misreading
+misreading writer number reference = record {
+  number = number;
+  target = fault_target reference.target;
+  named = program_target reference.target;
+  instead = option_and_then program_target (instead writer.reader reference);
+}
+
 abbrev pub note : Writer → Noted → Reference → Noted
 note writer noted reference = record {
   count = suc noted.count;
-  misread = if is_misread writer reference then noted.misread ++ (noted.count, fault_target reference.target) ∷ [] else noted.misread;
+  misread = if is_misread writer reference then noted.misread ++ misreading writer noted.count reference ∷ [] else noted.misread;
 }
 
 -- these too

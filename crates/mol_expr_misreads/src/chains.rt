@@ -1,5 +1,5 @@
 //! Fields of values, and the names that follow a value after dots (JLS 6.5.2, 15.11). What the first of several names reads as may depend
-//! on those that follow it, if it is outside; they are handed down.
+//! on those that follow it; they are handed down.
 ghost use Rattle.std.specs.Prelude.{◌≡◌, [], IfOk, None, Some};
 ghost use Rattle.jav_view.specs.StaticTypes.{outside_field};
 ghost use Rattle.mol_expr_misreads.specs.Noted.{IsRead};
@@ -34,8 +34,12 @@ impl<'a: 'n, 'n, N: Names> ExprReader<'a, 'n, N> {
         match e {
             IExpr::Field(field, on) => self.field(misreads, field, on.get(), follow),
             IExpr::OutsideField(name, on) => self.outside_field(misreads, name, on.get(), follow),
-            IExpr::OutsideName(name) => self.outside_name_before(misreads, name, follow),
-            IExpr::OutsideClass(full) => { self.outside_class_before(misreads, full, follow) },
+            IExpr::Local(number) => self.local(misreads, *number, Some(&*follow)),
+            IExpr::Param(id) => self.param(misreads, id, Some(&*follow)),
+            IExpr::Own(field) => self.own_field(misreads, field, Some(&*follow)),
+            IExpr::StaticField(field) => self.static_field(misreads, field, Some(&*follow)),
+            IExpr::OutsideName(name) => self.outside_name(misreads, name, Some(&*follow)),
+            IExpr::OutsideClass(full) => self.outside_class_before(misreads, full, follow),
             _ => self.expr(misreads, e),
         }
     }
@@ -71,8 +75,13 @@ impl<'a: 'n, 'n, N: Names> ExprReader<'a, 'n, N> {
             IfOk result (λ kept. IsRead writer misreads.old misreads.new (field_references writer locals field.now on.now None)
             (field_value writer.program field.now) kept) }
     {
-        let mut follow = Followers::new(self.alloc);
-        self.field(misreads, field, on, &mut follow)
+        match on {
+            IExpr::This => self.own_field(misreads, field, None),
+            _ => {
+                let mut follow = Followers::new(self.alloc);
+                self.value_field(misreads, field, on, &mut follow)
+            },
+        }
     }
 
     /// Reads a field of what an expression gives, before a dot and names that follow it.
@@ -92,7 +101,7 @@ impl<'a: 'n, 'n, N: Names> ExprReader<'a, 'n, N> {
             (field_value writer.program field.now) kept) }
     {
         match on {
-            IExpr::This => self.own_field(misreads, field),
+            IExpr::This => self.own_field(misreads, field, Some(&*follow)),
             _ => self.value_field(misreads, field, on, follow),
         }
     }

@@ -12,7 +12,7 @@ ghost use Rattle.mol_spelling.specs.Writers.{super_constructor_asked};
 
 use crate::expr_reader::ExprReader;
 use crate::misreads::Misreads;
-use crate::reads::constructor_reads;
+use crate::reads::{constructor_reads, super_reads};
 use mol_asked::Target;
 use mol_base::{Id, OutOfMemory, number_of};
 use mol_types::StaticType;
@@ -33,7 +33,7 @@ impl<'a, N: Names> ExprReader<'a, '_, N> {
             ≡ note writer misreads.old (plain writer locals (target_of target.now) (super_constructor_asked arity))) }
     {
         let count = number_of(arity)?;
-        let reads = self.place.super_constructor(count).is(target);
+        let reads = super_reads(&self.place, target, count);
         self.note(misreads, target, reads)
     }
 

@@ -1,19 +1,26 @@
 //! Where the names of expressions are read.
-ghost use Rattle.std.specs.Prelude.{◌≡◌, IfOk, OnOk};
+ghost use Rattle.std.specs.Prelude.{◌≡◌, IfOk, OnOk, false, option_map};
+ghost use Rattle.std.specs.Option.{option_and_then};
 ghost use Rattle.mol_asked.specs.Answers.{is_answer, target_of};
 ghost use Rattle.mol_expr_misreads.specs.Noted.{note};
 ghost use Rattle.mol_expr_misreads.specs.Places.{AreReadAt};
+ghost use Rattle.mol_expr_misreads.specs.Readings.{kept_reading, program_target, reads_as};
 ghost use Rattle.mol_fault.specs.Kept.{kept_target};
 ghost use Rattle.mol_spelling.specs.Answers.{answered};
 ghost use Rattle.mol_spelling.specs.FaultList.{fault_target, outside_of};
 ghost use Rattle.mol_spelling.specs.NameFaults.{is_gone};
+ghost use Rattle.mol_spelling.specs.ReadInstead.{instead as read_instead};
 ghost use Rattle.mol_spelling.specs.Writers.{Reference};
+ghost use Rattle.mol_support.specs.Met.{kept_met};
 
 use crate::misreads::Misreads;
+use crate::reading::{Reading, met_in};
 use mol_asked::{NamePlace, Target};
 use mol_base::{OutOfMemory, Text};
 use mol_body_locals::BodyLocals;
 use mol_fault::Target as FaultTarget;
+use mol_instead::InsteadPlace;
+use mol_support::Met;
 use mol_table::Table;
 use mol_written::Names;
 use std::alloc::Global;
@@ -28,7 +35,7 @@ pub struct ExprReader<'a, 'n, N> {
     pub locals: &'n BodyLocals<'a>,
 }
 
-impl<'a, N: Names> ExprReader<'a, '_, N> {
+impl<'a, 'n, N: Names> ExprReader<'a, 'n, N> {
     /// The table of the program.
     pub(crate) fn table(&self) -> &'a Table
         requires { AreReadAt (N.writer self.now.names.now) (N.locals self.now.names.now) self.now.place self.now.locals.now }
@@ -37,24 +44,55 @@ impl<'a, N: Names> ExprReader<'a, '_, N> {
         self.place.variables.members.table()
     }
 
-    /// Notes the next name by what it is the name of, and whether it reads as that.
+    /// The place, with the locals that were declared up to it.
+    pub(crate) fn instead_place(&self) -> InsteadPlace<'_, 'a, 'n>
+        ensures names { result.names.now ≡ self.now.place }
+        ensures locals { result.locals.now ≡ self.now.locals.now }
+    {
+        InsteadPlace {
+            names: &self.place,
+            locals: self.locals,
+        }
+    }
+
+    /// Notes the next name by what it is the name of, and how it reads.
     pub(crate) fn note(
         &self,
         misreads: &mut Misreads,
         target: &Target<'_>,
-        reads: bool,
+        reads: Reading,
     ) -> Result<(), OutOfMemory>
         requires { AreReadAt (N.writer self.now.names.now) (N.locals self.now.names.now) self.now.place self.now.locals.now }
         ensures { let writer = N.writer self.now.names.now in
             OnOk result ((reference : Reference) → target_of target.now ≡ reference.target
-            → reads ≡ is_answer reference.target (answered writer.reader reference)
+            → kept_reading reads ≡ reads_as writer.reader reference.locals reference.target reference.asked
             → misreads.new ≡ note writer misreads.old reference) }
     {
-        if reads || self.is_gone(target) {
+        match reads {
+            Reading::AsNamed => misreads.add_read(),
+            Reading::Instead(instead) => self.note_misread(misreads, target, instead),
+        }
+    }
+
+    /// Notes the next name, which reads as something else than what it is the name of, and of the program as this.
+    fn note_misread(
+        &self,
+        misreads: &mut Misreads,
+        target: &Target<'_>,
+        instead: Option<Met>,
+    ) -> Result<(), OutOfMemory>
+        requires { AreReadAt (N.writer self.now.names.now) (N.locals self.now.names.now) self.now.place self.now.locals.now }
+        ensures { let writer = N.writer self.now.names.now in
+            OnOk result ((reference : Reference) → target_of target.now ≡ reference.target
+            → is_answer reference.target (answered writer.reader reference) ≡ false
+            → option_map kept_met instead ≡ option_and_then program_target (read_instead writer.reader reference)
+            → misreads.new ≡ note writer misreads.old reference) }
+    {
+        if self.is_gone(target) {
             return misreads.add_read();
         }
-        let target = fault_target(self.alloc, target)?;
-        misreads.add_misread(target)
+        let kept = fault_target(self.alloc, target)?;
+        misreads.add_misread(kept, met_in(target), instead)
     }
 
     /// Whether a name is that of what does not live.

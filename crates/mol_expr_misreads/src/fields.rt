@@ -1,5 +1,6 @@
 //! Fields by their simple names, after `this`, after the name of their class and of values (JLS 6.5.6, 15.11).
-ghost use Rattle.std.specs.Prelude.{◌≡◌, ◌∷◌, [], IfOk, None, OnOk};
+ghost use Rattle.std.specs.Prelude.{◌≡◌, ◌∷◌, [], IfOk, OnOk};
+ghost use Rattle.mol_expr_misreads.specs.Kept.{mode_of};
 ghost use Rattle.mol_expr_misreads.specs.Names.{field_on_reference, outside_field_reference};
 ghost use Rattle.mol_expr_misreads.specs.Noted.{IsRead, note};
 ghost use Rattle.mol_expr_misreads.specs.Places.{AreReadAt};
@@ -8,8 +9,11 @@ ghost use Rattle.mol_spelling.specs.SpelledExpressions.{field_reference, on_clas
 ghost use Rattle.mol_types.specs.Kept.{view_value};
 
 use crate::expr_reader::ExprReader;
+use crate::followers::{Followers, add_followers};
 use crate::misreads::Misreads;
+use crate::paths::static_field_reads;
 use crate::reads::field_reads;
+use crate::spelled::add_name;
 use crate::values::field_value;
 use mol_asked::Target;
 use mol_base::{Id, OutOfMemory, Text};
@@ -22,15 +26,16 @@ impl<'a, N: Names> ExprReader<'a, '_, N> {
         &self,
         misreads: &mut Misreads,
         field: &Id,
+        mode: Option<&Followers<'_>>,
     ) -> Result<StaticType<'a>, OutOfMemory>
         requires { AreReadAt (N.writer self.now.names.now) (N.locals self.now.names.now) self.now.place self.now.locals.now }
         ensures { let writer = N.writer self.now.names.now in
             let locals = N.locals self.now.names.now in
             IfOk result (λ kept. IsRead writer misreads.old misreads.new
-            (field_reference writer locals (own_form writer locals field.now) field.now None ∷ [])
+            (field_reference writer locals (own_form writer locals field.now) field.now (mode_of mode.entry) ∷ [])
             (field_value writer.program field.now) kept) }
     {
-        self.note_own_field(misreads, field)?;
+        self.note_own_field(misreads, field, mode)?;
         Ok(field_value(self.table(), field))
     }
 
@@ -39,29 +44,31 @@ impl<'a, N: Names> ExprReader<'a, '_, N> {
         &self,
         misreads: &mut Misreads,
         field: &Id,
+        mode: Option<&Followers<'_>>,
     ) -> Result<StaticType<'a>, OutOfMemory>
         requires { AreReadAt (N.writer self.now.names.now) (N.locals self.now.names.now) self.now.place self.now.locals.now }
         ensures { let writer = N.writer self.now.names.now in
             let locals = N.locals self.now.names.now in
             IfOk result (λ kept. IsRead writer misreads.old misreads.new
-            (field_reference writer locals (static_form writer locals field.now) field.now None ∷ [])
+            (field_reference writer locals (static_form writer locals field.now) field.now (mode_of mode.entry) ∷ [])
             (field_value writer.program field.now) kept) }
     {
-        self.note_static_field(misreads, field)?;
+        self.note_static_field(misreads, field, mode)?;
         Ok(field_value(self.table(), field))
     }
 
     /// Notes the name of a field of `this`.
-    pub(crate) fn note_own_field(
+    fn note_own_field(
         &self,
         misreads: &mut Misreads,
         field: &Id,
+        mode: Option<&Followers<'_>>,
     ) -> Result<(), OutOfMemory>
         requires { AreReadAt (N.writer self.now.names.now) (N.locals self.now.names.now) self.now.place self.now.locals.now }
         ensures { let writer = N.writer self.now.names.now in
             let locals = N.locals self.now.names.now in
             OnOk result (misreads.new
-            ≡ note writer misreads.old (field_reference writer locals (own_form writer locals field.now) field.now None)) }
+            ≡ note writer misreads.old (field_reference writer locals (own_form writer locals field.now) field.now (mode_of mode.entry))) }
     {
         if self.names.reads_field(field) {
             return misreads.add_read();
@@ -71,19 +78,27 @@ impl<'a, N: Names> ExprReader<'a, '_, N> {
     }
 
     /// Notes the name of a static field.
-    fn note_static_field(&self, misreads: &mut Misreads, field: &Id) -> Result<(), OutOfMemory>
+    fn note_static_field(
+        &self,
+        misreads: &mut Misreads,
+        field: &Id,
+        mode: Option<&Followers<'_>>,
+    ) -> Result<(), OutOfMemory>
         requires { AreReadAt (N.writer self.now.names.now) (N.locals self.now.names.now) self.now.place self.now.locals.now }
         ensures { let writer = N.writer self.now.names.now in
             let locals = N.locals self.now.names.now in
-            OnOk result (misreads.new
-            ≡ note writer misreads.old (field_reference writer locals (static_form writer locals field.now) field.now None)) }
+            let form = static_form writer locals field.now in
+            OnOk result (misreads.new ≡ note writer misreads.old (field_reference writer locals form field.now (mode_of mode.entry))) }
     {
         if self.names.reads_field(field) {
             return misreads.add_read();
         }
         match self.names.owner_of(field) {
-            Some(class) => self.note_field_of(misreads, &class, field),
-            None => self.note(misreads, &Target::Field(*field), false),
+            Some(class) => self.note_field_of(misreads, &class, field, mode),
+            None => {
+                let target = Target::Field(*field);
+                self.note_variable(misreads, &target, self.names.name_of(field), mode)
+            },
         }
     }
 
@@ -93,17 +108,21 @@ impl<'a, N: Names> ExprReader<'a, '_, N> {
         misreads: &mut Misreads,
         class: &Id,
         field: &Id,
+        mode: Option<&Followers<'_>>,
     ) -> Result<(), OutOfMemory>
         requires { AreReadAt (N.writer self.now.names.now) (N.locals self.now.names.now) self.now.place self.now.locals.now }
         ensures { let writer = N.writer self.now.names.now in
             let locals = N.locals self.now.names.now in
-            OnOk result (misreads.new ≡ note writer misreads.old (field_reference writer locals (on_class class.now) field.now None)) }
+            let form = on_class class.now in
+            OnOk result (misreads.new ≡ note writer misreads.old (field_reference writer locals form field.now (mode_of mode.entry))) }
     {
         let spelled = self.spelled(TypePlace::Expression, Importable::Class(class))?;
-        let path = spelled.names(self.alloc)?;
+        let mut names = spelled.names(self.alloc)?;
+        let count = names.len();
+        add_name(self.alloc, &mut names, self.names.name_of(field))?;
+        add_followers(self.alloc, &mut names, mode)?;
         let target = Target::Field(*field);
-        let name = self.names.name_of(field);
-        let reads = self.place.static_field(path.as_slice(), name).is(&target);
+        let reads = static_field_reads(&self.instead_place(), &target, names.as_slice(), count)?;
         self.note(misreads, &target, reads)
     }
 

@@ -2,6 +2,8 @@
 ghost use Rattle.std.specs.Borrow.{Bor};
 ghost use Rattle.std.specs.Prelude.{◌≡◌, ◌++◌, ◌∷◌, [], OnOk, map, reverse};
 ghost use Rattle.jav_view.specs.DottedNames.{Name};
+ghost use Rattle.mol_expr_misreads.specs.Kept.{mode_of};
+ghost use Rattle.mol_spell.specs.ReadTrees.{followers};
 
 use crate::spelled::add_name;
 use mol_base::{OutOfMemory, Text};
@@ -51,6 +53,20 @@ impl<'n> Followers<'n> {
         ensures { OnOk result (names.new.items ≡ names.old.items ++ self.now) }
     {
         add_last_first(alloc, names, self.names.as_slice())
+    }
+}
+
+/// Adds copies of the names that follow a name; of none where it stands alone.
+pub(crate) fn add_followers(
+    alloc: Global,
+    names: &mut Vec<Text>,
+    mode: Option<&Followers<'_>>,
+) -> Result<(), OutOfMemory>
+    ensures { OnOk result (names.new.items ≡ names.old.items ++ followers (mode_of mode.entry)) }
+{
+    match mode {
+        Some(follow) => follow.add_to(alloc, names),
+        None => Ok(()),
     }
 }
 

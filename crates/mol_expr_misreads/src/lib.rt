@@ -1,4 +1,5 @@
-//! Which names of expressions of a program read as something else than what they are the names of, where the expressions are printed.
+//! Which names of expressions of a program read as something else than what they are the names of, where the expressions are printed, and
+//! what they read as instead.
 #![tactic(auto)]
 
 mod calls;
@@ -12,6 +13,8 @@ mod followers;
 mod methods;
 mod misreads;
 mod operands;
+mod paths;
+mod reading;
 mod reads;
 mod spelled;
 mod types;

@@ -3,11 +3,12 @@ ghost use Rattle.std.specs.Prelude.{◌≡◌, OnOk};
 ghost use Rattle.mol_expr_misreads.specs.Names.{method_on_reference, outside_call_reference, outside_on_reference, outside_super_reference, super_reference};
 ghost use Rattle.mol_expr_misreads.specs.Noted.{note};
 ghost use Rattle.mol_expr_misreads.specs.Places.{AreReadAt};
-ghost use Rattle.mol_spelling.specs.SpelledExpressions.{call_form, call_reference, on_class, static_call_form};
+ghost use Rattle.mol_spelling.specs.SpelledExpressions.{by_name, call_form, call_reference, on_class, static_call_form};
 ghost use Rattle.mol_types.specs.Kept.{view_value};
 
 use crate::expr_reader::ExprReader;
 use crate::misreads::Misreads;
+use crate::paths::static_method_reads;
 use crate::reads::{call_reads, method_reads, super_method_reads};
 use mol_asked::Target;
 use mol_base::{Id, OutOfMemory, Text, number_of};
@@ -55,7 +56,7 @@ impl<N: Names> ExprReader<'_, '_, N> {
         }
         match self.names.declaring_class(method) {
             Some(class) => self.note_method_of(misreads, &class, method, count),
-            None => self.note(misreads, &Target::Method(*method), false),
+            None => self.note_simply(misreads, method, count),
         }
     }
 
@@ -76,8 +77,27 @@ impl<N: Names> ExprReader<'_, '_, N> {
         let path = spelled.names(self.alloc)?;
         let name = Text::from_str(self.alloc, self.names.name_of(method))?;
         let target = Target::Method(*method);
-        let answer = self.place.static_method(path.as_slice(), &name, arity);
-        self.note(misreads, &target, answer.is(&target))
+        let place = self.instead_place();
+        let reads = static_method_reads(&place, &target, path.as_slice(), &name, arity)?;
+        self.note(misreads, &target, reads)
+    }
+
+    /// Notes the name of a method without anything before it, with so many arguments.
+    fn note_simply(
+        &self,
+        misreads: &mut Misreads,
+        method: &Id,
+        arity: u32,
+    ) -> Result<(), OutOfMemory>
+        requires { AreReadAt (N.writer self.now.names.now) (N.locals self.now.names.now) self.now.place self.now.locals.now }
+        ensures { let writer = N.writer self.now.names.now in
+            let locals = N.locals self.now.names.now in
+            OnOk result (misreads.new ≡ note writer misreads.old (call_reference writer locals by_name method.now arity)) }
+    {
+        let name = Text::from_str(self.alloc, self.names.name_of(method))?;
+        let target = Target::Method(*method);
+        let reads = call_reads(&self.place, &target, &name, arity);
+        self.note(misreads, &target, reads)
     }
 
     /// Notes the name of a method of a value of this type, with so many arguments.

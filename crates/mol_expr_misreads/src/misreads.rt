@@ -1,19 +1,27 @@
 //! Names that read as something else than what they are the names of.
-ghost use Rattle.std.specs.Prelude.{◌≡◌, ◌++◌, ◌∷◌, suc, [], OnOk, map};
+ghost use Rattle.std.specs.Prelude.{◌≡◌, ◌++◌, ◌∷◌, suc, [], OnOk, map, option_map};
 ghost use Rattle.mol_expr_misreads.specs.Kept.{kept_misread};
 ghost use Rattle.mol_expr_misreads.specs.Noted.{none_noted};
 ghost use Rattle.mol_fault.specs.Kept.{kept_target};
+ghost use Rattle.mol_support.specs.Met.{kept_met};
 
 use mol_base::OutOfMemory;
 use mol_fault::Target;
+use mol_support::Met;
 use std::alloc::Global;
 use std::marker::Model;
 
-/// A name, by its number among those that print, from 0, and what it is the name of.
+/// A name that reads as something else than what it is the name of.
 #[derive(Drop)]
 pub struct Misread {
+    /// Its number among those that print, from 0.
     pub number: u32,
+    /// What it is the name of.
     pub target: Target,
+    /// The same, if it is of the program and no local.
+    pub named: Option<Met>,
+    /// What it reads as instead, if that is of the program and no local. Of several names it is what the last of them reads as.
+    pub instead: Option<Met>,
 }
 
 /// The names that were read, in the order in which they print: how many there are, and which of them read as something else than what
@@ -61,15 +69,30 @@ impl Misreads {
         Ok(())
     }
 
-    /// One more name was read, as something else than this.
-    pub(crate) fn add_misread(&mut self, target: Target) -> Result<(), OutOfMemory>
-        ensures { OnOk result (self.new ≡ record {
+    /// One more name was read, as something else than this target, and as this of the program instead.
+    pub(crate) fn add_misread(
+        &mut self,
+        target: Target,
+        named: Option<Met>,
+        instead: Option<Met>,
+    ) -> Result<(), OutOfMemory>
+        ensures { OnOk result (self.new ≡ record self.old {
           count = suc self.old.count;
-          misread = self.old.misread ++ (self.old.count, kept_target target) ∷ [];
+          misread = self.old.misread ++ record {
+            number = self.old.count;
+            target = kept_target target;
+            named = option_map kept_met named;
+            instead = option_map kept_met instead;
+          } ∷ [];
         }) }
     {
         let number = self.count;
-        self.items.push(Misread { number, target })?;
+        self.items.push(Misread {
+            number,
+            target,
+            named,
+            instead,
+        })?;
         self.add_read()
     }
 }

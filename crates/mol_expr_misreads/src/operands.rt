@@ -14,6 +14,7 @@ ghost use Rattle.mol_written.specs.declared.type_place.TypePlace.TheVariants as 
 
 use crate::expr_reader::ExprReader;
 use crate::misreads::Misreads;
+use crate::reads::index_reads;
 use mol_asked::Target;
 use mol_base::{OutOfMemory, Text, is_step};
 use mol_choices::common;
@@ -68,7 +69,7 @@ impl<'a: 'n, 'n, N: Names> ExprReader<'a, 'n, N> {
             return Err(OutOfMemory);
         };
         let target = Target::Outside("[]");
-        let reads = self.place.index_on(&ty).is(&target);
+        let reads = index_reads(&self.place, &target, &ty);
         self.note(misreads, &target, reads)?;
         self.note_expr(misreads, index)?;
         Ok(ty.item())

@@ -1,2 +1,5 @@
-pub mod Joined
 pub mod FirstOfAll
+pub mod Joined
+pub mod MetAdded
+pub mod MetMore
+pub mod MetNames

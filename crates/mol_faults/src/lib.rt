@@ -1,9 +1,11 @@
-//! The faults of a program: for what it does not mean the same once it is printed.
+//! The faults of a program: for what it does not mean the same once it is printed, and the cells that each rests on.
 #![tactic(auto)]
 
 mod all;
 mod first;
+mod support;
 
 pub use all::faults;
 pub use first::first_fault;
 pub use mol_fault::{Fault, Target};
+pub use support::support;

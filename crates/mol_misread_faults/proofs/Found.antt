@@ -7,11 +7,12 @@ use Rattle.jav_view.proofs.Lists.{Decides-fails, Decides-not, stands-mapped, sta
 use Rattle.mol_asked.proofs.AnswersTested.{tested}
 use Rattle.mol_asked.specs.Answers.{is_answer}
 use Rattle.mol_base.specs.declared.ident.Id.{Id}
-use Rattle.mol_expr_misreads.specs.Noted.{is_misread, none_noted, noted_after}
+use Rattle.mol_expr_misreads.specs.Noted.{is_misread, misreading, none_noted, noted_after}
+use Rattle.mol_expr_misreads.specs.Readings.{program_target}
 use Rattle.mol_fault.specs.OfKind.{AreOfKind}
 use Rattle.mol_misread_faults.proofs.MisreadRows.{IsRow, rows-are, rows-stand}
 use Rattle.mol_misread_faults.proofs.SameRows.{ordered-alike, row_cmp}
-use Rattle.mol_misread_faults.specs.Found.{all_misreads, cell_misreads, class_misreads, fault_of, file_misreads, misread_of}
+use Rattle.mol_misread_faults.specs.Found.{Found, IsMisread, all_misreads, cell_misreads, class_misreads, fault_in, fault_of, file_misreads, found_at}
 use Rattle.mol_misread_faults.specs.declared.row.Row.{Row}
 use Rattle.mol_ordered.proofs.Mapped.{sorted-mapped}
 use Rattle.mol_references.specs.References.{Target}
@@ -52,35 +53,26 @@ apart-misread writer reference there differs =
 
 -- ---- in the files of a program
 
--- a fault of a name in the file of a class
-record InFile (program : Program) (fault : Fault) : Type 0 where
-  class : Id
-  at : Cell
-  number : ℕ
-  target : Target
-  misread_in : MisreadIn program class at number target
-  is : misread at number (fault_target target) ≡ fault
-
 class-known : (known : Option Known) → is_class known ≡ true → is_some known ≡ true
 class-known None is = absurd (true≢false (sym is))
 class-known (Some known) is = refl
 
 module _ (program : Program) where
   -- in a cell
-  in-cell : (class : Id) (at : Cell) (fault : Fault) → IsTrue (is_living_class program class) → Contains (printed_cells program class) at
-      → Contains (cell_misreads program (imports_in program class) (is_simple_in program class) class at) fault → InFile program fault
-  in-cell class at fault lives prints stands =
+  in-cell : (class : Id) (at : Cell) (name : Found) → IsTrue (is_living_class program class) → Contains (printed_cells program class) at
+      → Contains (cell_misreads program (imports_in program class) (is_simple_in program class) class at) name → IsMisread program name
+  in-cell class at name lives prints stands =
       let writer = unit_writer program class at in
       let references = unit_references program class at in
-      let row = from_map (misread_of at) (noted_after writer none_noted references).misread fault stands in
+      let row = from_map (found_at at) (noted_after writer none_noted references).misread name stands in
       let found : IsRow writer 0 references row.0 = rows-are writer references row.0 row.1 in
       let apart = reads-apart writer found.reference found.misread in
-      record {
+      let number : found.place ≡ 0 + found.place = omega arith in
+      subst (IsMisread program)
+      (ap (λ (n : ℕ). found_at at (misreading writer n found.reference)) number ∙ ap (found_at at) found.is ∙ row.2) (record {
         class = class;
-        at = at;
-        number = found.place;
         target = found.reference.target;
-        misread_in = record {
+        misread = record {
           class_lives = lives;
           prints = prints;
           reference = found.reference;
@@ -89,44 +81,65 @@ module _ (program : Program) where
           there = apart.0;
           differs = apart.1;
         };
-        is = ap (λ (n : ℕ). misread at n (fault_target found.reference.target))
-            (let n : found.place ≡ 0 + found.place = omega arith in n) ∙ ap (misread_of at) found.is ∙ row.2;
-      }
+        is_target = refl;
+        is_named = refl;
+        is_instead = refl;
+      })
 
-  in-class : (class : Id) (fault : Fault) (lives : Bool) → is_living_class program class ≡ lives
-      → Contains (if lives then file_misreads program class else []) fault → InFile program fault
-  in-class class fault false is stands = absurd (stands_nowhere fault stands)
-  in-class class fault true is stands =
+  in-class : (class : Id) (name : Found) (lives : Bool) → is_living_class program class ≡ lives
+      → Contains (if lives then file_misreads program class else []) name → IsMisread program name
+  in-class class name false is stands = absurd (stands_nowhere name stands)
+  in-class class name true is stands =
       let found = from_each (cell_misreads program (imports_in program class) (is_simple_in program class) class)
-      (printed_cells program class) fault stands in
-      in-cell class found.0 fault is found.1 found.2
+      (printed_cells program class) name stands in
+      in-cell class found.0 name is found.1 found.2
 
   -- what is found is misread in a file
-  in-files : (ids : List Id) (fault : Fault) → Contains (all_misreads program ids) fault → InFile program fault
-  in-files ids fault stands =
-      let found = from_each (class_misreads program) ids fault stands in
-      in-class found.0 fault (is_living_class program found.0) refl found.2
+  pub in-files : (ids : List Id) (name : Found) → Contains (all_misreads program ids) name → IsMisread program name
+  in-files ids name stands =
+      let found = from_each (class_misreads program) ids name stands in
+      in-class found.0 name (is_living_class program found.0) refl found.2
+
+  -- a name that is misread in a file
+  name-read : (class : Id) (at : Cell) (number : ℕ) (target : Target) → MisreadIn program class at number target → Found
+  name-read class at number target reads = found_at at (misreading (unit_writer program class at) number reads.reference)
 
   -- and what is misread in a file is found
   is-found : (ids : List Id) → AreKnown program ids → (class : Id) (at : Cell) (number : ℕ) (target : Target)
-      → MisreadIn program class at number target → Contains (all_misreads program ids) (misread at number (fault_target target))
+      (reads : MisreadIn program class at number target) → Contains (all_misreads program ids) (name-read class at number target reads)
   is-found ids known class at number target reads =
-      let fault : Fault = misread at number (fault_target target) in
       let writer = unit_writer program class at in
+      let name = name-read class at number target reads in
       let of_cell = cell_misreads program (imports_in program class) (is_simple_in program class) class in
       let is : is_misread writer reads.reference ≡ true = apart-misread writer reads.reference
       (subst (λ (t : Target). IsFalse (is_gone program t)) (sym reads.names) reads.there)
       (subst (λ (t : Target). answered (unit_reader program class at) reads.reference ≢ Some t) (sym reads.names) reads.differs) in
-      let in_cell : Contains (of_cell at) fault = subst (λ (t : Target). Contains (of_cell at) (misread at number (fault_target t)))
-      reads.names
-      (stands-mapped (misread_of at) (noted_after writer none_noted (unit_references program class at)).misread
-      (number, fault_target reads.reference.target)
-      (rows-stand writer (unit_references program class at) number reads.reference reads.stands is)) in
-      in_each (class_misreads program) ids class fault
+      let in_cell : Contains (of_cell at) name =
+      stands-mapped (found_at at) (noted_after writer none_noted (unit_references program class at)).misread
+      (misreading writer number reads.reference)
+      (rows-stand writer (unit_references program class at) number reads.reference reads.stands is) in
+      in_each (class_misreads program) ids class name
       ((known class).1 (class-known (get program.known class)
       (and_parts (is_class (get program.known class)) (living_at program class) reads.class_lives).0))
-      (subst (λ (lives : Bool). Contains (if lives then file_misreads program class else []) fault) (sym reads.class_lives)
-      (in_each of_cell (printed_cells program class) at fault reads.prints in_cell))
+      (subst (λ (lives : Bool). Contains (if lives then file_misreads program class else []) name) (sym reads.class_lives)
+      (in_each of_cell (printed_cells program class) at name reads.prints in_cell))
+
+  -- it is this one
+  read-is : (name : Found) (is : IsMisread program name) → name-read is.class name.at name.name.number is.target is.misread ≡ name
+  read-is name is = λ i. found_at name.at (record {
+    number = name.name.number;
+    target = (ap fault_target is.misread.names ∙ is.is_target) i;
+    named = (ap program_target is.misread.names ∙ is.is_named) i;
+    instead = is.is_instead i;
+  })
+
+  pub are-misread : (ids : List Id) → AreKnown program ids → (name : Found)
+      → Contains (all_misreads program ids) name ↔ IsMisread program name
+  are-misread ids known name = (
+    in-files ids name,
+    λ is. subst (Contains (all_misreads program ids)) (read-is name is)
+        (is-found ids known is.class name.at name.name.number is.target is.misread),
+  )
 
 -- ---- the faults
 
@@ -143,26 +156,39 @@ same-mapped {X} {Y} make xs ys y all stands =
     let found = from_map make xs y stands in
     subst (Contains (map make ys)) found.2 (stands-mapped make ys found.0 (all found.0 found.1))
 
-module _ (program tidied : Program) (is-tidied : tidied ≡ tidy program) (ids : List Id) (known : AreKnown tidied ids)
-    (rows ordered : List Row) (found : map fault_of rows ≡ all_misreads tidied ids)
+module _ (program tidied : Program) (is-tidied : tidied ≡ tidy program) (names : List Found) (rows ordered : List Row)
+    (are : (name : Found) → Contains names name ↔ IsMisread tidied name) (found : map fault_of rows ≡ map fault_in names)
     (same : (row : Row) → Contains ordered row ↔ Contains rows row) where
   is-fault : (fault : Fault) → Contains (map fault_of ordered) fault → IsFault program fault × ((fault_key fault).kind ≡ 5)
   is-fault fault stands =
-      let here = in-files tidied ids fault (subst (λ (faults : List Fault). Contains faults fault) found
+      let row = from_map fault_in names fault (subst (λ (faults : List Fault). Contains faults fault) found
       (same-mapped fault_of ordered rows fault (λ row. (same row).0) stands)) in
-      let reads : Misread program here.at here.number here.target = record {
+      let name = row.0 in
+      let here = (are name).0 row.1 in
+      let reads : Misread program name.at name.name.number here.target = record {
         class = here.class;
-        misread = subst (λ (p : Program). MisreadIn p here.class here.at here.number here.target) is-tidied here.misread_in;
+        misread = subst (λ (p : Program). MisreadIn p here.class name.at name.name.number here.target) is-tidied here.misread;
       } in
-      subst (λ (f : Fault). IsFault program f × ((fault_key f).kind ≡ 5)) here.is
-      (by_reading reads, kind-kept (fault_target here.target) (record (cell_key 5 here.at) { number = here.number }))
+      subst (λ (f : Fault). IsFault program f × ((fault_key f).kind ≡ 5))
+      (ap (misread name.at name.name.number) here.is_target ∙ row.2)
+      (by_reading reads, kind-kept (fault_target here.target) (record (cell_key 5 name.at) { number = name.name.number }))
 
   stands-fault : (fault : Fault) → IsFault program fault → (fault_key fault).kind ≡ 5 → Contains (map fault_of ordered) fault
   stands-fault fault (by_reading {at = at} {number = number} {target = target} reads) kind =
+      let here = subst (λ (p : Program). MisreadIn p reads.class at number target) (sym is-tidied) reads.misread in
+      let name = name-read tidied reads.class at number target here in
+      let is : IsMisread tidied name = record {
+        class = reads.class;
+        target = target;
+        misread = here;
+        is_target = sym (ap fault_target here.names);
+        is_named = sym (ap program_target here.names);
+        is_instead = refl;
+      } in
       same-mapped fault_of rows ordered (misread at number (fault_target target)) (λ row. (same row).1)
       (subst (λ (faults : List Fault). Contains faults (misread at number (fault_target target))) (sym found)
-      (is-found tidied ids known reads.class at number target
-      (subst (λ (p : Program). MisreadIn p reads.class at number target) (sym is-tidied) reads.misread)))
+      (subst (λ (t : Target). Contains (map fault_in names) (misread at number (fault_target t))) here.names
+      (stands-mapped fault_in names name ((are name).1 is))))
   stands-fault fault (by_address h) kind = absurd (omega (arith, kind))
   stands-fault fault (by_override h) kind = absurd (omega (arith, kind))
   stands-fault fault (by_place h) kind = absurd (omega (arith, kind))

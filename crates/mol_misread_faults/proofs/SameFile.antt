@@ -6,10 +6,9 @@ use Rattle.std.specs.List.{flat_map}
 use Rattle.jav_view.specs.DottedNames.{Names}
 use Rattle.mol_base.specs.declared.ident.Id.{Id}
 use Rattle.mol_misread_faults.specs.Files.{AreNamesOf}
-use Rattle.mol_misread_faults.specs.Found.{cell_misreads, cells_misreads, file_misreads, member_misreads, members_misreads}
+use Rattle.mol_misread_faults.specs.Found.{Found, cell_misreads, cells_misreads, file_misreads, member_misreads, members_misreads}
 use Rattle.mol_simple_names.specs.Named.{imports_of_file, simple_in_file}
 use Rattle.mol_simple_names.specs.declared.simple_names.SimpleNames.{SimpleNames}
-use Rattle.mol_spelling.specs.FaultList.{Fault}
 use Rattle.mol_spelling.specs.SimpleNames.{imports_by, is_simple_by}
 use Rattle.mol_spelling.specs.UnitCells.{member_cells, printed_cells}
 use Rattle.mol_spelling.specs.Writers.{Importable}
@@ -28,35 +27,35 @@ same-file names program class imports are imported = λ i. cells_misreads progra
 -- ---- members and their cells
 
 module _ (program : Program) (imports : Names) (is_simple : Importable → Bool) (class : Id) where
-  abbrev of_cell : Cell → List Fault
+  abbrev of_cell : Cell → List Found
   of_cell = cell_misreads program imports is_simple class
 
   of-members : (members : List (Id × Known))
       → members_misreads program imports is_simple class members ≡ flat_map of_cell (flat_map member_cells members)
   of-members [] = refl
   of-members (member ∷ members) =
-      ap (λ faults. member_misreads program imports is_simple class member ++ faults) (of-members members)
+      ap (λ found. member_misreads program imports is_simple class member ++ found) (of-members members)
       ∙ sym (flat_map-append of_cell (member_cells member) (flat_map member_cells members))
 
   -- the cell `super`, and then those of the members
-  pub all-cells : (first : Cell) (listed members : List (Id × Known)) (so_far one more : List Fault) → listed ≡ members
+  pub all-cells : (first : Cell) (listed members : List (Id × Known)) (so_far one more : List Found) → listed ≡ members
       → one ≡ so_far ++ of_cell first → more ≡ one ++ members_misreads program imports is_simple class listed
       → more ≡ so_far ++ cells_misreads program imports is_simple class (first ∷ flat_map member_cells members)
   all-cells first listed members so_far one more are is next =
       next ∙ (λ i. is i ++ members_misreads program imports is_simple class (are i))
       ∙ append_assoc so_far (of_cell first) (members_misreads program imports is_simple class members)
-      ∙ ap (λ faults. so_far ++ (of_cell first ++ faults)) (of-members members)
+      ∙ ap (λ found. so_far ++ (of_cell first ++ found)) (of-members members)
 
-  pub one-cell : (cell : Cell) (so_far more : List Fault) → more ≡ so_far ++ of_cell cell
+  pub one-cell : (cell : Cell) (so_far more : List Found) → more ≡ so_far ++ of_cell cell
       → more ≡ so_far ++ cells_misreads program imports is_simple class (cell ∷ [])
-  one-cell cell so_far more is = is ∙ ap (λ faults. so_far ++ faults) (sym (append-nil (of_cell cell)))
+  one-cell cell so_far more is = is ∙ ap (λ found. so_far ++ found) (sym (append-nil (of_cell cell)))
 
-  pub three-cells : (first second third : Cell) (so_far one two more : List Fault) → one ≡ so_far ++ of_cell first
+  pub three-cells : (first second third : Cell) (so_far one two more : List Found) → one ≡ so_far ++ of_cell first
       → two ≡ one ++ of_cell second → more ≡ two ++ of_cell third
       → more ≡ so_far ++ cells_misreads program imports is_simple class (first ∷ second ∷ third ∷ [])
   three-cells first second third so_far one two more is next last =
-      last ∙ ap (λ faults. faults ++ of_cell third)
-      (next ∙ ap (λ faults. faults ++ of_cell second) is ∙ append_assoc so_far (of_cell first) (of_cell second))
+      last ∙ ap (λ found. found ++ of_cell third)
+      (next ∙ ap (λ found. found ++ of_cell second) is ∙ append_assoc so_far (of_cell first) (of_cell second))
       ∙ append_assoc so_far (of_cell first ++ of_cell second) (of_cell third)
-      ∙ ap (λ faults. so_far ++ faults) (append_assoc (of_cell first) (of_cell second) (of_cell third)
-      ∙ ap (λ faults. of_cell first ++ (of_cell second ++ faults)) (sym (append-nil (of_cell third))))
+      ∙ ap (λ found. so_far ++ found) (append_assoc (of_cell first) (of_cell second) (of_cell third)
+      ∙ ap (λ found. of_cell first ++ (of_cell second ++ found)) (sym (append-nil (of_cell third))))

@@ -31,7 +31,7 @@ named_eq = named_equality.TheImpl.eq-value.it
 abbrev pub row_eq : Row → Row → Bool
 row_eq = row_equality.TheImpl.eq-value.it
 
-number-same : (first second : ℕ) → (first == second) ≡ true → first ≡ second
+pub number-same : (first second : ℕ) → (first == second) ≡ true → first ≡ second
 number-same first second is = by (eqb_tells first second) where
   by : (((first == second) ≡ true) × (first ≡ second)) ⊎ (((first == second) ≡ false) × (first ≢ second)) → first ≡ second
   by (inl same) = same.1
@@ -44,7 +44,7 @@ named-same (Local first) (Local second) is = ap (λ number. Local number) (numbe
 named-same (Outside first) (Outside second) is = ap (λ text. Outside text) ((bytes_decides first second).0 is)
 named-same first second is = absurd (true≢false (sym is))
 
-is-equal : (o : Ordering) → is_eq o ≡ true → o ≡ Equal
+pub is-equal : (o : Ordering) → is_eq o ≡ true → o ≡ Equal
 is-equal Less is = absurd (true≢false (sym is))
 is-equal Equal is = refl
 is-equal Greater is = absurd (true≢false (sym is))

@@ -4,12 +4,12 @@ ghost use Rattle.mol_body_names.specs.FilePlaces.{writer_of};
 ghost use Rattle.mol_class_members.specs.Members.{member_entry};
 ghost use Rattle.mol_expr_misreads.specs.Kept.{kept_misread};
 ghost use Rattle.mol_expr_misreads.specs.Noted.{none_noted, noted_after};
-ghost use Rattle.mol_misread_faults.specs.Found.{cell_misreads, fault_of, member_misreads, members_misreads, misread_of};
+ghost use Rattle.mol_misread_faults.specs.Found.{cell_misreads, found_at, kept_name, member_misreads, members_misreads};
 ghost use Rattle.mol_spelling.specs.UnitCells.{cell_writer, references_at};
 ghost use Rattle.mol_table.specs.Program.{cell};
 ghost use Rattle.mol_values.specs.declared.known.Known.TheVariants as knowns;
 
-use crate::row::{Row, in_row};
+use crate::names::MisreadName;
 use crate::scope::{is_in_constructor, params_in_scope};
 use jav_imports::ImportIndex;
 use mol_base::{Id, OutOfMemory};
@@ -36,28 +36,33 @@ impl<'a, F: FileNames> FileCells<'a, F> {
     /// Adds what is misread in the cells of members, one after the other.
     pub(crate) fn add_members(
         &self,
-        rows: &mut Vec<Row>,
+        names: &mut Vec<MisreadName>,
         members: &[ClassMember],
     ) -> Result<(), OutOfMemory>
         requires { self.now.imports.now ≡ F.imports self.now.file.now }
-        ensures { let file = self.now.file.now in OnOk result (map fault_of rows.new.items ≡ map fault_of rows.old.items
+        ensures { let file = self.now.file.now in OnOk result (map kept_name names.new.items ≡ map kept_name names.old.items
             ++ members_misreads self.now.index.now (F.imports file) (F.simple file) self.now.class (map member_entry members.now)) }
     {
         for member in members {
-            self.add_member(rows, &member.id, member.known)?;
+            self.add_member(names, &member.id, member.known)?;
         }
         Ok(())
     }
 
     /// Adds what is misread in the cells of a member.
-    fn add_member(&self, rows: &mut Vec<Row>, id: &Id, known: Known) -> Result<(), OutOfMemory>
+    fn add_member(
+        &self,
+        names: &mut Vec<MisreadName>,
+        id: &Id,
+        known: Known,
+    ) -> Result<(), OutOfMemory>
         requires { self.now.imports.now ≡ F.imports self.now.file.now }
-        ensures { let file = self.now.file.now in OnOk result (map fault_of rows.new.items ≡ map fault_of rows.old.items
+        ensures { let file = self.now.file.now in OnOk result (map kept_name names.new.items ≡ map kept_name names.old.items
             ++ member_misreads self.now.index.now (F.imports file) (F.simple file) self.now.class (id.now, known)) }
     {
         match known {
-            Known::Field => self.add_cell(rows, id, Slot::Value),
-            Known::Decl(method) => self.add_declaration(rows, id, &method),
+            Known::Field => self.add_cell(names, id, Slot::Value),
+            Known::Decl(method) => self.add_declaration(names, id, &method),
             Known::Class => Ok(()),
             Known::Method(_) => Ok(()),
             Known::Param(_) => Ok(()),
@@ -65,30 +70,35 @@ impl<'a, F: FileNames> FileCells<'a, F> {
     }
 
     /// Adds what is misread in the cells of a declaration of a method.
-    fn add_declaration(&self, rows: &mut Vec<Row>, id: &Id, method: &Id) -> Result<(), OutOfMemory>
+    fn add_declaration(
+        &self,
+        names: &mut Vec<MisreadName>,
+        id: &Id,
+        method: &Id,
+    ) -> Result<(), OutOfMemory>
         requires { self.now.imports.now ≡ F.imports self.now.file.now }
-        ensures { let file = self.now.file.now in OnOk result (map fault_of rows.new.items ≡ map fault_of rows.old.items
+        ensures { let file = self.now.file.now in OnOk result (map kept_name names.new.items ≡ map kept_name names.old.items
             ++ member_misreads self.now.index.now (F.imports file) (F.simple file) self.now.class (id.now, knowns.Decl method.now)) }
     {
-        self.add_cell(rows, method, Slot::Result)?;
-        self.add_cell(rows, method, Slot::Params)?;
-        self.add_cell(rows, id, Slot::Body)
+        self.add_cell(names, method, Slot::Result)?;
+        self.add_cell(names, method, Slot::Params)?;
+        self.add_cell(names, id, Slot::Body)
     }
 
     /// Adds what is misread in a cell.
     pub(crate) fn add_cell(
         &self,
-        rows: &mut Vec<Row>,
+        names: &mut Vec<MisreadName>,
         id: &Id,
         slot: Slot,
     ) -> Result<(), OutOfMemory>
         requires { self.now.imports.now ≡ F.imports self.now.file.now }
-        ensures { let file = self.now.file.now in OnOk result (map fault_of rows.new.items ≡ map fault_of rows.old.items
+        ensures { let file = self.now.file.now in OnOk result (map kept_name names.new.items ≡ map kept_name names.old.items
             ++ cell_misreads self.now.index.now (F.imports file) (F.simple file) self.now.class (cell id.now slot)) }
     {
         let at = Cell { id: *id, slot };
         let misreads = self.misreads(&at)?;
-        add_rows(rows, &at, misreads.into_items())
+        add_names(names, &at, misreads.into_items())
     }
 
     /// The names in a cell: how many there are, and which of them are misread.
@@ -135,16 +145,16 @@ impl<'a, F: FileNames> FileCells<'a, F> {
 }
 
 /// Adds the misread names of a cell.
-fn add_rows(rows: &mut Vec<Row>, at: &Cell, misreads: Vec<Misread>) -> Result<(), OutOfMemory>
-    ensures { OnOk result (map fault_of rows.new.items ≡ map fault_of rows.old.items
-        ++ map (misread_of at.now) (map kept_misread misreads.items)) }
+fn add_names(
+    names: &mut Vec<MisreadName>,
+    at: &Cell,
+    misreads: Vec<Misread>,
+) -> Result<(), OutOfMemory>
+    ensures { OnOk result (map kept_name names.new.items ≡ map kept_name names.old.items
+        ++ map (found_at at.now) (map kept_misread misreads.items)) }
 {
     for misread in misreads {
-        rows.push(Row {
-            at: *at,
-            number: misread.number,
-            target: in_row(misread.target),
-        })?;
+        names.push(MisreadName { at: *at, misread })?;
     }
     Ok(())
 }

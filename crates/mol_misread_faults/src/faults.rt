@@ -2,15 +2,13 @@
 ghost use Rattle.std.specs.Prelude.{◌≡◌, IfOk, map};
 ghost use Rattle.mol_fault.specs.Kept.{kept_fault};
 ghost use Rattle.mol_fault.specs.OfKind.{AreAllOfKind};
-ghost use Rattle.mol_misread_faults.specs.Found.{fault_of};
+ghost use Rattle.mol_misread_faults.specs.Found.{fault_in, fault_of, kept_name};
 ghost use Rattle.mol_table.specs.Program.{Program};
 ghost use Rattle.mol_table.specs.Tidy.{tidy};
 
-use crate::files::misread_rows;
-use crate::row::{Row, fault_of};
+use crate::names::{MisreadName, misread_names};
+use crate::row::{Row, fault_of, in_row};
 use mol_base::{List, OutOfMemory};
-use mol_class_members::ClassMembers;
-use mol_declared::MemberIndex;
 use mol_fault::Fault;
 use mol_ordered::in_order;
 use mol_table::Table;
@@ -24,10 +22,32 @@ use std::alloc::Global;
 pub fn misread(alloc: Global, tidied: &Table) -> Result<List<Fault>, OutOfMemory>
     ensures { IfOk result (λ faults. (program : Program) → tidied.now ≡ tidy program → AreAllOfKind program 5 faults) }
 {
-    let index = MemberIndex::new(alloc, tidied)?;
-    let members = ClassMembers::new(alloc, tidied)?;
-    let rows = misread_rows(alloc, &index, &members, tidied.ids())?;
+    let names = misread_names(alloc, tidied)?;
+    let rows = rows_of(alloc, names)?;
     faults_of(alloc, in_order(rows))
+}
+
+/// These names as rows.
+fn rows_of(alloc: Global, names: Vec<MisreadName>) -> Result<Vec<Row>, OutOfMemory>
+    ensures { IfOk result (λ rows. map fault_of rows.items ≡ map fault_in (map kept_name names.items)) }
+{
+    let mut rows = Vec::new(alloc);
+    for name in names {
+        rows.push(row_of(name))?;
+    }
+    Ok(rows)
+}
+
+/// A name as a row. It takes no memory.
+fn row_of(name: MisreadName) -> Row
+    ensures { fault_of result ≡ fault_in (kept_name name) }
+{
+    let MisreadName { at, misread } = name;
+    Row {
+        at,
+        number: misread.number,
+        target: in_row(misread.target),
+    }
 }
 
 /// These as faults.

@@ -1,13 +1,13 @@
 //! The files of a program.
 ghost use Rattle.std.specs.Prelude.{◌≡◌, ◌++◌, IfOk, OnOk, map};
 ghost use Rattle.mol_misread_faults.specs.Files.{AreNamesOf};
-ghost use Rattle.mol_misread_faults.specs.Found.{all_misreads, cells_misreads, class_misreads, fault_of, file_misreads};
+ghost use Rattle.mol_misread_faults.specs.Found.{all_misreads, cells_misreads, class_misreads, file_misreads, kept_name};
 ghost use Rattle.mol_spelling.specs.SimpleNames.{uses_in};
 ghost use Rattle.mol_spelling.specs.UnitCells.{printed_cells};
 
 use crate::cells::FileCells;
+use crate::names::MisreadName;
 use crate::names_of_file::NamesOfFile;
-use crate::row::Row;
 use jav_imports::ImportIndex;
 use mol_base::{Id, OutOfMemory};
 use mol_body_names::FileNames;
@@ -21,35 +21,35 @@ use mol_uses::Uses;
 use std::alloc::Global;
 
 /// What is misread in the files of those classes among these identities that live. The index and the members are those of one table.
-pub(crate) fn misread_rows(
+pub(crate) fn names_in(
     alloc: Global,
     index: &MemberIndex<'_>,
     members: &ClassMembers<'_>,
     ids: &[Id],
-) -> Result<Vec<Row>, OutOfMemory>
+) -> Result<Vec<MisreadName>, OutOfMemory>
     requires { members.now ≡ index.now }
-    ensures { IfOk result (λ rows. map fault_of rows.items ≡ all_misreads index.now ids.now) }
+    ensures { IfOk result (λ found. map kept_name found.items ≡ all_misreads index.now ids.now) }
 {
-    let mut rows = Vec::new(alloc);
+    let mut found = Vec::new(alloc);
     for id in ids {
-        add_class(alloc, &mut rows, index, members, id)?;
+        add_class(alloc, &mut found, index, members, id)?;
     }
-    Ok(rows)
+    Ok(found)
 }
 
 /// Adds what is misread in the file of a class, where it lives.
 fn add_class(
     alloc: Global,
-    rows: &mut Vec<Row>,
+    found: &mut Vec<MisreadName>,
     index: &MemberIndex<'_>,
     members: &ClassMembers<'_>,
     id: &Id,
 ) -> Result<(), OutOfMemory>
     requires { members.now ≡ index.now }
-    ensures { OnOk result (map fault_of rows.new.items ≡ map fault_of rows.old.items ++ class_misreads index.now id.now) }
+    ensures { OnOk result (map kept_name found.new.items ≡ map kept_name found.old.items ++ class_misreads index.now id.now) }
 {
     if is_living_class(index.table(), id) {
-        add_file(alloc, rows, index, members, id)
+        add_file(alloc, found, index, members, id)
     } else {
         Ok(())
     }
@@ -58,22 +58,22 @@ fn add_class(
 /// Adds what is misread in the file of a class: what its names use is gathered first, which decides what has a simple name.
 fn add_file(
     alloc: Global,
-    rows: &mut Vec<Row>,
+    found: &mut Vec<MisreadName>,
     index: &MemberIndex<'_>,
     members: &ClassMembers<'_>,
     class: &Id,
 ) -> Result<(), OutOfMemory>
     requires { members.now ≡ index.now }
-    ensures { OnOk result (map fault_of rows.new.items ≡ map fault_of rows.old.items ++ file_misreads index.now class.now) }
+    ensures { OnOk result (map kept_name found.new.items ≡ map kept_name found.old.items ++ file_misreads index.now class.now) }
 {
     let uses = file_uses(alloc, index, members, class)?;
-    add_by_uses(alloc, rows, index, members, class, &uses)
+    add_by_uses(alloc, found, index, members, class, &uses)
 }
 
 /// Adds what is misread in the file of a class whose names use this.
 fn add_by_uses<'a>(
     alloc: Global,
-    rows: &mut Vec<Row>,
+    found: &mut Vec<MisreadName>,
     index: &'a MemberIndex<'_>,
     members: &ClassMembers<'_>,
     class: &Id,
@@ -81,10 +81,10 @@ fn add_by_uses<'a>(
 ) -> Result<(), OutOfMemory>
     requires table { members.now ≡ index.now }
     requires uses { uses.now ≡ uses_in index.now class.now }
-    ensures { OnOk result (map fault_of rows.new.items ≡ map fault_of rows.old.items ++ file_misreads index.now class.now) }
+    ensures { OnOk result (map kept_name found.new.items ≡ map kept_name found.old.items ++ file_misreads index.now class.now) }
 {
     match SimpleNames::new(alloc, index.classes(), *class, uses.items()) {
-        Ok(names) => add_by_names(alloc, rows, index, members, class, &names),
+        Ok(names) => add_by_names(alloc, found, index, members, class, &names),
         Err(OutOfMemory) => Err(OutOfMemory),
     }
 }
@@ -92,7 +92,7 @@ fn add_by_uses<'a>(
 /// Adds what is misread in the file of a class that has these simple names.
 fn add_by_names<'a>(
     alloc: Global,
-    rows: &mut Vec<Row>,
+    found: &mut Vec<MisreadName>,
     index: &'a MemberIndex<'_>,
     members: &ClassMembers<'_>,
     class: &Id,
@@ -100,37 +100,37 @@ fn add_by_names<'a>(
 ) -> Result<(), OutOfMemory>
     requires table { members.now ≡ index.now }
     requires names { AreNamesOf index.now class.now names.now }
-    ensures { OnOk result (map fault_of rows.new.items ≡ map fault_of rows.old.items ++ file_misreads index.now class.now) }
+    ensures { OnOk result (map kept_name found.new.items ≡ map kept_name found.old.items ++ file_misreads index.now class.now) }
 {
     let imports = names.imports(alloc)?;
     let file = NamesOfFile {
         names,
         imports: imports.items(),
     };
-    add_by_imports(alloc, rows, index, members, class, &file)
+    add_by_imports(alloc, found, index, members, class, &file)
 }
 
 /// Adds what is misread in the cells of a file with these names, by an index of its imports.
 fn add_by_imports<'a, F: FileNames>(
     alloc: Global,
-    rows: &mut Vec<Row>,
+    found: &mut Vec<MisreadName>,
     index: &'a MemberIndex<'_>,
     members: &ClassMembers<'_>,
     class: &Id,
     file: &'a F,
 ) -> Result<(), OutOfMemory>
     requires { members.now ≡ index.now }
-    ensures { OnOk result (map fault_of rows.new.items ≡ map fault_of rows.old.items
+    ensures { OnOk result (map kept_name found.new.items ≡ map kept_name found.old.items
         ++ cells_misreads index.now (F.imports file.now) (F.simple file.now) class.now (printed_cells index.now class.now)) }
 {
     let imports = ImportIndex::new(alloc, file.imported())?;
-    add_cells(alloc, rows, index, members, class, file, &imports)
+    add_cells(alloc, found, index, members, class, file, &imports)
 }
 
 /// Adds what is misread in the cells of a file with these names and imports.
 fn add_cells<'a, F: FileNames>(
     alloc: Global,
-    rows: &mut Vec<Row>,
+    found: &mut Vec<MisreadName>,
     index: &'a MemberIndex<'_>,
     members: &ClassMembers<'_>,
     class: &Id,
@@ -139,7 +139,7 @@ fn add_cells<'a, F: FileNames>(
 ) -> Result<(), OutOfMemory>
     requires table { members.now ≡ index.now }
     requires imports { imports.now ≡ F.imports file.now }
-    ensures { OnOk result (map fault_of rows.new.items ≡ map fault_of rows.old.items
+    ensures { OnOk result (map kept_name found.new.items ≡ map kept_name found.old.items
         ++ cells_misreads index.now (F.imports file.now) (F.simple file.now) class.now (printed_cells index.now class.now)) }
 {
     let cells = FileCells {
@@ -149,6 +149,6 @@ fn add_cells<'a, F: FileNames>(
         imports,
         class: *class,
     };
-    cells.add_cell(rows, class, Slot::Super)?;
-    cells.add_members(rows, members.members_of(class))
+    cells.add_cell(found, class, Slot::Super)?;
+    cells.add_members(found, members.members_of(class))
 }

@@ -4,8 +4,10 @@
 mod cells;
 mod faults;
 mod files;
+mod names;
 mod names_of_file;
 mod row;
 mod scope;
 
 pub use faults::misread;
+pub use names::{MisreadName, misread_names};

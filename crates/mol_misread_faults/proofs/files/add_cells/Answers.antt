@@ -2,7 +2,7 @@ use Rattle.std.proofs.Common.{◌∙◌, map, ap}
 use Rattle.std.proofs.lemmas.Result.{on_ok_weaker}
 use Rattle.mol_misread_faults.proofs.SameFile.{all-cells}
 use Rattle.mol_misread_faults.proofs.files.add_cells.Goals as goal
-use Rattle.mol_misread_faults.specs.Found.{fault_of}
+use Rattle.mol_misread_faults.specs.Found.{kept_name}
 use Rattle.mol_spelling.specs.UnitCells.{members_of}
 use Rattle.mol_table.specs.Program.{Program, cell}
 use Rattle.mol_values.specs.declared.cell.Slot.TheVariants as slots
@@ -13,6 +13,6 @@ returns g c =
     let class = c.args.class.now in
     on_ok_weaker c.add_members.result (all-cells program (g.F.FileNames.imports c.args.file.now)
     (g.F.FileNames.simple c.args.file.now) class (cell class slots.Super) _ (members_of program class)
-    (map fault_of c.args.rows.now.items) _ _
+    (map kept_name c.args.found.now.items) _ _
     (c.members_of.ensures ∙ ap (λ (program : Program). members_of program class) c.requires.table) c.in_ok-add_cell.ensures)
     c.add_members.ensures

@@ -3,17 +3,16 @@ use Rattle.std.proofs.Common.{[], ◌∷◌, ◌++◌, None, Some, length, refl,
 use Rattle.std.proofs.lemmas.Result.{IfOk-weaker, on_ok_weaker}
 use Rattle.jav_view.specs.OnValues.{class_value, primitive_value}
 use Rattle.jav_view.specs.StaticTypes.{common, item, outside_call, outside_field}
-use Rattle.mol_asked.specs.Answers.{is_answer}
-use Rattle.mol_expr_misreads.proofs.ModeFree.{field-free, field-on-free, mode-free}
+use Rattle.mol_expr_misreads.proofs.ModeFree.{mode-free}
 use Rattle.mol_expr_misreads.proofs.NotedMore.{noted-both, noted-first, noted-more, noted-value, noted-whole}
 use Rattle.mol_expr_misreads.proofs.ReadHere.{class-is, reads-so}
 use Rattle.mol_expr_misreads.specs.Names.{field_on_reference, index_reference, method_on_reference, outside_call_reference, outside_field_reference, outside_on_reference, outside_super_reference, super_reference}
 use Rattle.mol_expr_misreads.specs.Noted.{noted_after}
-use Rattle.mol_expr_misreads.specs.References.{all_references, argument_references, created_references, expr_references, field_references, outside_field_references, outside_received, received_references, references_as, static_type, type_references}
+use Rattle.mol_expr_misreads.specs.References.{all_references, argument_references, created_references, expr_references, outside_field_references, outside_received, received_references, references_as, static_type, type_references, value_field_references}
 use Rattle.mol_references.specs.References.{index_target}
 use Rattle.mol_spell.specs.ProgramViews.{program_view}
 use Rattle.mol_spell.specs.StaticTypes.{class_of_only_declaration, field_value, result_value}
-use Rattle.mol_spelling.specs.SpelledExpressions.{call_form, call_reference, constructor_reference, name_of, own_form, static_call_form}
+use Rattle.mol_spelling.specs.SpelledExpressions.{call_form, call_reference, constructor_reference, name_of, static_call_form}
 use Rattle.mol_spelling.specs.Writers.{index_asked}
 use Rattle.mol_values.specs.declared.iexpr.Argument.{Argument}
 use Rattle.mol_expr_misreads.proofs.expr_reader.ExprReader.+expr_misreads.Goals as goal
@@ -42,28 +41,28 @@ expr-returns-in-Local g t c =
     let writer = g.N.Names.writer c.args.self.now.names.now in
     let locals = g.N.Names.locals c.args.self.now.names.now in
     IfOk-weaker c.local.result _ _ (nodes.read-so writer locals c.args.e.now None _ _
-    (nodes.says-Local writer locals c.args.e.now _ c.in-Local.is) _ _) c.local.ensures
+    (nodes.says-Local writer locals c.args.e.now _ None c.in-Local.is) _ _) c.local.ensures
 
 pub expr-returns-in-Param : goal.expr-returns-in-Param
 expr-returns-in-Param g t c =
     let writer = g.N.Names.writer c.args.self.now.names.now in
     let locals = g.N.Names.locals c.args.self.now.names.now in
     IfOk-weaker c.param.result _ _ (nodes.read-so writer locals c.args.e.now None _ _
-    (nodes.says-Param writer locals c.args.e.now _ c.in-Param.is) _ _) c.param.ensures
+    (nodes.says-Param writer locals c.args.e.now _ None c.in-Param.is) _ _) c.param.ensures
 
 pub expr-returns-in-Own : goal.expr-returns-in-Own
 expr-returns-in-Own g t c =
     let writer = g.N.Names.writer c.args.self.now.names.now in
     let locals = g.N.Names.locals c.args.self.now.names.now in
     IfOk-weaker c.own_field.result _ _ (nodes.read-so writer locals c.args.e.now None _ _
-    (nodes.says-Own writer locals c.args.e.now _ c.in-Own.is) _ _) c.own_field.ensures
+    (nodes.says-Own writer locals c.args.e.now _ None c.in-Own.is) _ _) c.own_field.ensures
 
 pub expr-returns-in-StaticField : goal.expr-returns-in-StaticField
 expr-returns-in-StaticField g t c =
     let writer = g.N.Names.writer c.args.self.now.names.now in
     let locals = g.N.Names.locals c.args.self.now.names.now in
     IfOk-weaker c.static_field.result _ _ (nodes.read-so writer locals c.args.e.now None _ _
-    (nodes.says-StaticField writer locals c.args.e.now _ c.in-StaticField.is) _ _) c.static_field.ensures
+    (nodes.says-StaticField writer locals c.args.e.now _ None c.in-StaticField.is) _ _) c.static_field.ensures
 
 pub expr-returns-in-Field : goal.expr-returns-in-Field
 expr-returns-in-Field g t c =
@@ -446,7 +445,7 @@ index-returns g t c =
           (noted-first writer _ _ _ (index_reference writer locals type) (expr_references writer locals c.args.index.now)
           (c.in_ok-note.ensures (index_reference writer locals type) refl
           (reads-so writer locals place kept c.requires _ index_target _ locals _ _
-          (c.is-reads.ensures ∙ ap (is_answer index_target) (c.index_on.ensures locals)) refl (ap index_asked c.in-Ok.ensures.typed)))
+          (c.index_reads-reads.ensures locals) refl (ap index_asked c.in-Ok.ensures.typed)))
           c.in_ok-note_expr.ensures);
       typed = c.item.ensures ∙ ap item c.in-Ok.ensures.typed;
     }
@@ -537,13 +536,40 @@ before-returns-in-OutsideField g t c =
     (c.in-OutsideField.is ∙ (λ i. exprs.OutsideField c.in-OutsideField.name
     (sym c.get-in-OutsideField.ensures i)))) _ _) c.outside_field.ensures
 
+pub before-returns-in-Local : goal.before-returns-in-Local
+before-returns-in-Local g t c =
+    let writer = g.N.Names.writer c.args.self.now.names.now in
+    let locals = g.N.Names.locals c.args.self.now.names.now in
+    IfOk-weaker c.local.result _ _ (nodes.read-so writer locals c.args.e.now _ _ _
+    (nodes.says-Local writer locals c.args.e.now _ (Some c.args.follow.now) c.in-Local.is) _ _) c.local.ensures
+
+pub before-returns-in-Param : goal.before-returns-in-Param
+before-returns-in-Param g t c =
+    let writer = g.N.Names.writer c.args.self.now.names.now in
+    let locals = g.N.Names.locals c.args.self.now.names.now in
+    IfOk-weaker c.param.result _ _ (nodes.read-so writer locals c.args.e.now _ _ _
+    (nodes.says-Param writer locals c.args.e.now _ (Some c.args.follow.now) c.in-Param.is) _ _) c.param.ensures
+
+pub before-returns-in-Own : goal.before-returns-in-Own
+before-returns-in-Own g t c =
+    let writer = g.N.Names.writer c.args.self.now.names.now in
+    let locals = g.N.Names.locals c.args.self.now.names.now in
+    IfOk-weaker c.own_field.result _ _ (nodes.read-so writer locals c.args.e.now _ _ _
+    (nodes.says-Own writer locals c.args.e.now _ (Some c.args.follow.now) c.in-Own.is) _ _) c.own_field.ensures
+
+pub before-returns-in-StaticField : goal.before-returns-in-StaticField
+before-returns-in-StaticField g t c =
+    let writer = g.N.Names.writer c.args.self.now.names.now in
+    let locals = g.N.Names.locals c.args.self.now.names.now in
+    IfOk-weaker c.static_field.result _ _ (nodes.read-so writer locals c.args.e.now _ _ _
+    (nodes.says-StaticField writer locals c.args.e.now _ (Some c.args.follow.now) c.in-StaticField.is) _ _) c.static_field.ensures
+
 pub before-returns-in-OutsideName : goal.before-returns-in-OutsideName
 before-returns-in-OutsideName g t c =
     let writer = g.N.Names.writer c.args.self.now.names.now in
     let locals = g.N.Names.locals c.args.self.now.names.now in
-    IfOk-weaker c.outside_name_before.result _ _ (nodes.read-so writer locals c.args.e.now _ _ _
-    (nodes.says-OutsideName writer locals c.args.e.now _ (Some c.args.follow.now)
-    c.in-OutsideName.is) _ _) c.outside_name_before.ensures
+    IfOk-weaker c.outside_name.result _ _ (nodes.read-so writer locals c.args.e.now _ _ _
+    (nodes.says-OutsideName writer locals c.args.e.now _ (Some c.args.follow.now) c.in-OutsideName.is) _ _) c.outside_name.ensures
 
 pub before-returns-in-OutsideClass : goal.before-returns-in-OutsideClass
 before-returns-in-OutsideClass g t c =
@@ -559,12 +585,16 @@ before-returns-in_default g t c =
     let locals = g.N.Names.locals c.args.self.now.names.now in
     let misreads = c.args.misreads.now in
     IfOk-weaker c.expr.result _ _ (λ ty read. record {
-      noted = read.noted ∙ sym (mode-free writer locals misreads c.args.e.now (record {
+      noted = read.noted ∙ ap (noted_after writer misreads) (sym (mode-free writer locals c.args.e.now (record {
         no_field = c.in_default.not-Field;
         no_outside_field = c.in_default.not-OutsideField;
+        no_local = c.in_default.not-Local;
+        no_param = c.in_default.not-Param;
+        no_own = c.in_default.not-Own;
+        no_static_field = c.in_default.not-StaticField;
         no_outside_name = c.in_default.not-OutsideName;
         no_outside_class = c.in_default.not-OutsideClass;
-      }) (Some c.args.follow.now));
+      }) (Some c.args.follow.now)));
       typed = read.typed;
     }) c.expr.ensures
 
@@ -584,18 +614,30 @@ receiver-returns g t c =
       typed = read.typed;
     }) c.before-2.ensures
 
-pub field_alone-returns : goal.field_alone-returns
-field_alone-returns g t c =
+pub field_alone-returns-in-This : goal.field_alone-returns-in-This
+field_alone-returns-in-This g t c =
     let writer = g.N.Names.writer c.args.self.now.names.now in
     let locals = g.N.Names.locals c.args.self.now.names.now in
     let misreads = c.args.misreads.now in
-    IfOk-weaker c.field.result _ _ (λ ty read. record {
+    IfOk-weaker c.own_field.result _ _ (λ ty read. record {
       noted = read.noted
-          ∙ ap (λ follow. noted_after writer misreads (field_references writer locals c.args.field.now c.args.on.now
-          (Some follow))) c.new-follow.ensures
-          ∙ field-on-free writer locals misreads c.args.field.now c.args.on.now (Some []) None refl;
+          ∙ ap (noted_after writer misreads) (sym (nodes.field-on-this writer locals c.args.field.now c.args.on.now None c.in-This.is));
       typed = read.typed;
-    }) c.field.ensures
+    }) c.own_field.ensures
+
+pub field_alone-returns-in_default : goal.field_alone-returns-in_default
+field_alone-returns-in_default g t c =
+    let writer = g.N.Names.writer c.args.self.now.names.now in
+    let locals = g.N.Names.locals c.args.self.now.names.now in
+    let misreads = c.args.misreads.now in
+    IfOk-weaker c.value_field.result _ _ (λ ty read. record {
+      noted = read.noted
+          ∙ ap (λ follow. noted_after writer misreads (value_field_references writer locals c.args.field.now c.args.on.now
+          (Some follow))) c.new-follow.ensures
+          ∙ ap (noted_after writer misreads) (sym (nodes.field-on-other writer locals c.args.field.now c.args.on.now None
+          c.in_default.not-This));
+      typed = read.typed;
+    }) c.value_field.ensures
 
 pub field-returns-in-This : goal.field-returns-in-This
 field-returns-in-This g t c =
@@ -604,7 +646,7 @@ field-returns-in-This g t c =
     let misreads = c.args.misreads.now in
     let follow = Some c.args.follow.now in
     IfOk-weaker c.own_field.result _ _ (λ ty read. record {
-      noted = read.noted ∙ sym (field-free writer locals misreads (own_form writer locals c.args.field.now) c.args.field.now follow)
+      noted = read.noted
           ∙ ap (noted_after writer misreads) (sym (nodes.field-on-this writer locals c.args.field.now c.args.on.now follow c.in-This.is));
       typed = read.typed;
     }) c.own_field.ensures

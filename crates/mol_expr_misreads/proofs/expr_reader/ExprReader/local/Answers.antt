@@ -1,8 +1,8 @@
 use Rattle.std.proofs.Common.{refl, ap, ◌∙◌}
-use Rattle.mol_expr_misreads.proofs.ReadHere.{local-is, reads-so}
+use Rattle.mol_expr_misreads.proofs.ReadHere.{local-is}
+use Rattle.mol_expr_misreads.specs.Kept.{mode_of}
 use Rattle.mol_expr_misreads.specs.Names.{local_reference}
-use Rattle.mol_references.specs.References.{local_target}
-use Rattle.mol_spelling.specs.Writers.{name_asked}
+use Rattle.mol_spelling.specs.SpelledExpressions.{asks_name}
 use Rattle.mol_expr_misreads.proofs.expr_reader.ExprReader.local.Goals as goal
 
 pub returns-in-Some : goal.returns-in-Some
@@ -11,10 +11,10 @@ returns-in-Some g c =
     let locals = g.N.Names.locals c.args.self.now.names.now in
     let place = c.args.self.now.place in
     let kept = c.args.self.now.locals.now in
+    let mode = mode_of c.args.mode in
     record {
-      noted = c.in_ok-note.ensures (local_reference writer locals c.args.number) refl
-          (reads-so writer locals place kept c.requires _ (local_target c.args.number) _ locals _ _
-          (c.name_reads-reads.ensures locals c.requires.at) (refl) (ap name_asked c.local_name.ensures));
+      noted = c.in_ok-note_variable.ensures (local_reference writer locals c.args.number mode) refl refl
+          (ap (λ name. asks_name writer locals name mode) c.local_name.ensures);
       typed = c.of_type.ensures ∙ local-is writer locals place kept c.requires c.args.number _ c.in-Some.ensures;
     }
 
@@ -24,9 +24,9 @@ returns-in-None g c =
     let locals = g.N.Names.locals c.args.self.now.names.now in
     let place = c.args.self.now.place in
     let kept = c.args.self.now.locals.now in
+    let mode = mode_of c.args.mode in
     record {
-      noted = c.in_ok-note.ensures (local_reference writer locals c.args.number) refl
-          (reads-so writer locals place kept c.requires _ (local_target c.args.number) _ locals _ _
-          (c.name_reads-reads.ensures locals c.requires.at) (refl) (ap name_asked c.local_name.ensures));
+      noted = c.in_ok-note_variable.ensures (local_reference writer locals c.args.number mode) refl refl
+          (ap (λ name. asks_name writer locals name mode) c.local_name.ensures);
       typed = local-is writer locals place kept c.requires c.args.number _ c.in-None.ensures;
     }

@@ -1,18 +1,40 @@
-use Rattle.std.proofs.Common.{[], ◌∷◌, None, refl, ap, ◌∙◌}
+use Rattle.std.proofs.Common.{◌≡◌, ◌∷◌, refl, ap, ◌∙◌}
 use Rattle.std.proofs.lemmas.Result.{on_ok_weaker}
-use Rattle.mol_asked.specs.Answers.{is_answer}
-use Rattle.mol_expr_misreads.proofs.CutNames.{is-some}
-use Rattle.mol_expr_misreads.proofs.ReadHere.{reads-so}
+use Rattle.mol_expr_misreads.proofs.NamesAdded.{are-below, are-many, are-some, go-past}
+use Rattle.mol_expr_misreads.proofs.ReadHere.{is-place, reads-there}
+use Rattle.mol_expr_misreads.specs.Kept.{mode_of}
 use Rattle.mol_references.specs.References.{field_target}
+use Rattle.mol_spell.specs.ReadTrees.{followers}
 use Rattle.mol_spelling.specs.SpelledExpressions.{class_names, field_reference, on_class}
 use Rattle.mol_spelling.specs.Writers.{static_field_asked}
 use Rattle.mol_expr_misreads.proofs.expr_reader.ExprReader.note_field_of.Goals as goal
 
-pub static_field-requires : goal.static_field-requires
-static_field-requires g c =
+pub static_field_reads-requires-clause-at : goal.static_field_reads-requires-clause-at
+static_field_reads-requires-clause-at g c =
     let writer = g.N.Names.writer c.args.self.now.names.now in
     let locals = g.N.Names.locals c.args.self.now.names.now in
-    is-some _ _ _ (c.as_slice.ensures.value ∙ c.in_ok-path.ensures ∙ ap (λ names. names.first ∷ names.rest) c.in_ok-spelled.ensures)
+    let place = c.args.self.now.place in
+    let kept = c.args.self.now.locals.now in
+    is-place writer locals place kept c.requires c.instead_place.result c.instead_place.ensures.names c.instead_place.ensures.locals
+
+pub static_field_reads-requires-clause-some : goal.static_field_reads-requires-clause-some
+static_field_reads-requires-clause-some g c =
+    let writer = g.N.Names.writer c.args.self.now.names.now in
+    let locals = g.N.Names.locals c.args.self.now.names.now in
+    let names = class_names writer locals c.args.class.now in
+    are-some c.in_ok-names.names.items names.first names.rest c.len-count.result
+    (c.in_ok-names.ensures ∙ ap (λ names. names.first ∷ names.rest) c.in_ok-spelled.ensures)
+    (c.len-count.ensures ∙ c.in_ok-names.names.ok.0)
+
+pub static_field_reads-requires-clause-within : goal.static_field_reads-requires-clause-within
+static_field_reads-requires-clause-within g c =
+    let writer = g.N.Names.writer c.args.self.now.names.now in
+    let locals = g.N.Names.locals c.args.self.now.names.now in
+    let names = class_names writer locals c.args.class.now in
+    are-below c.in_ok-names.names.items names.first names.rest c.len-count.result
+    (c.in_ok-names.ensures ∙ ap (λ names. names.first ∷ names.rest) c.in_ok-spelled.ensures)
+    (c.len-count.ensures ∙ c.in_ok-names.names.ok.0) _ _ _ _ c.in_ok-add_name.ensures
+    (c.as_slice.ensures.value ∙ c.in_ok-add_followers.ensures)
 
 pub returns : goal.returns
 returns g c =
@@ -20,8 +42,16 @@ returns g c =
     let locals = g.N.Names.locals c.args.self.now.names.now in
     let place = c.args.self.now.place in
     let kept = c.args.self.now.locals.now in
-    on_ok_weaker c.note.result (λ noted. noted (field_reference writer locals (on_class c.args.class.now) c.args.field.now None) (refl)
-    (reads-so writer locals place kept c.requires _ (field_target c.args.field.now) _ locals _ _ (c.is-reads.ensures ∙ ap (is_answer
-    (field_target c.args.field.now)) (c.static_field.ensures locals (class_names writer locals c.args.class.now) [] c.requires.at
-    (c.as_slice.ensures.value ∙ c.in_ok-path.ensures ∙ ap (λ names. names.first ∷ names.rest) c.in_ok-spelled.ensures))) (refl) (ap
-    (λ name. static_field_asked (class_names writer locals c.args.class.now) name []) c.name_of-name.ensures))) c.note.ensures
+    let names = class_names writer locals c.args.class.now in
+    let mode = mode_of c.args.mode in
+    let spelled : c.in_ok-names.names.items ≡ names.first ∷ names.rest = c.in_ok-names.ensures
+    ∙ ap (λ names. names.first ∷ names.rest) c.in_ok-spelled.ensures in
+    let many = c.len-count.ensures ∙ c.in_ok-names.names.ok.0 in
+    on_ok_weaker c.note.result (λ noted. noted (field_reference writer locals (on_class c.args.class.now) c.args.field.now mode) refl
+    (reads-there writer locals place kept c.requires c.instead_place.result c.instead_place.ensures.names c.instead_place.ensures.locals _
+    (field_target c.args.field.now) _ _ _
+    (c.in_ok-reads.ensures names c.name_of.result.now (followers mode)
+    (go-past c.in_ok-names.names.items names.first names.rest c.len-count.result spelled many _ (followers mode) _ _
+    c.in_ok-add_name.ensures (c.as_slice.ensures.value ∙ c.in_ok-add_followers.ensures))
+    (are-many c.in_ok-names.names.items names.first names.rest c.len-count.result spelled many)) refl
+    (ap (λ name. static_field_asked names name (followers mode)) c.name_of.ensures))) c.note.ensures

@@ -1,8 +1,9 @@
-use Rattle.std.proofs.Common.{None, sym, ap, ◌∙◌}
+use Rattle.std.proofs.Common.{sym, ap, ◌∙◌}
 use Rattle.std.proofs.lemmas.Result.{on_ok_weaker}
 use Rattle.jav_view.specs.OnValues.{class_value}
 use Rattle.mol_expr_misreads.proofs.ReadHere.{class-is}
 use Rattle.mol_expr_misreads.proofs.SimpleNames.{field-reads, noted-simply, otherwise-is}
+use Rattle.mol_expr_misreads.specs.Kept.{mode_of}
 use Rattle.mol_expr_misreads.specs.Names.{field_on_reference}
 use Rattle.mol_expr_misreads.specs.Noted.{note}
 use Rattle.mol_spelling.specs.SpelledExpressions.{field_reference, on_this, reads_field}
@@ -15,8 +16,8 @@ returns-then-reads_field g c =
     let place = c.args.self.now.place in
     let misreads = c.args.misreads.now in
     on_ok_weaker c.add_read.result (λ added. added ∙ noted-simply writer
-    (λ form. field_reference writer locals form c.args.field.now None) on_this
-    (reads_field writer locals c.args.field.now) (field-reads writer locals place c.requires.reader c.args.field.now)
+    (λ form. field_reference writer locals form c.args.field.now (mode_of c.args.mode)) on_this
+    (reads_field writer locals c.args.field.now) (field-reads writer locals place c.requires.reader c.args.field.now (mode_of c.args.mode))
     (sym c.reads_field.ensures ∙ c.if-reads_field.true) misreads) c.add_read.ensures
 
 pub returns : goal.returns
@@ -29,6 +30,6 @@ returns g c =
     on_ok_weaker c.note_field_on.result (λ noted. noted
     ∙ ap (λ class. note writer misreads (field_on_reference writer locals (class_value class) c.args.field.now))
     (class-is writer locals place kept c.requires)
-    ∙ ap (note writer misreads) (sym (otherwise-is writer (λ form. field_reference writer locals form c.args.field.now None) on_this
-    (reads_field writer locals c.args.field.now) (field-reads writer locals place c.requires.reader c.args.field.now)
+    ∙ ap (note writer misreads) (sym (otherwise-is writer (λ form. field_reference writer locals form c.args.field.now (mode_of c.args.mode)) on_this
+    (reads_field writer locals c.args.field.now) (field-reads writer locals place c.requires.reader c.args.field.now (mode_of c.args.mode))
     (sym c.reads_field.ensures ∙ c.if-reads_field.false)))) c.note_field_on.ensures

@@ -1,6 +1,6 @@
-use Rattle.std.proofs.Common.{refl, sym, ap, ◌∙◌}
+use Rattle.std.proofs.Common.{sym, ap, ◌∙◌}
 use Rattle.std.proofs.lemmas.Result.{on_ok_weaker}
-use Rattle.mol_expr_misreads.proofs.SimpleNames.{method-reads, misread-simply, noted-simply, otherwise-is}
+use Rattle.mol_expr_misreads.proofs.SimpleNames.{method-reads, noted-simply, otherwise-is}
 use Rattle.mol_expr_misreads.specs.Noted.{note}
 use Rattle.mol_spell.specs.StaticTypes.{class_of_only_declaration}
 use Rattle.mol_spelling.specs.SpelledExpressions.{by_name, call_reference, on_class, on_owner, reads_method}
@@ -41,15 +41,11 @@ returns-in-None g c =
     let locals = g.N.Names.locals c.args.self.now.names.now in
     let place = c.args.self.now.place in
     let misreads = c.args.misreads.now in
-    on_ok_weaker c.note.result (λ noted. noted (call_reference writer locals by_name c.args.method.now c.args.arity) refl
-    (misread-simply writer (λ form. call_reference writer locals form c.args.method.now c.args.arity) (on_owner
-    (class_of_only_declaration writer.program c.args.method.now))
-    (reads_method writer locals c.args.method.now c.args.arity) (method-reads writer locals c.args.method.now c.args.arity)
-    (ap (reads_method writer locals c.args.method.now) (sym c.in_ok-count.ensures.ok) ∙ sym c.reads_method.ensures
-    ∙ c.if-reads_method.false))
+    on_ok_weaker c.note_simply.result (λ noted. noted
+    ∙ ap (λ arity. note writer misreads (call_reference writer locals by_name c.args.method.now arity)) c.in_ok-count.ensures.ok
     ∙ ap (λ owner. note writer misreads (call_reference writer locals (on_owner owner) c.args.method.now c.args.arity)) c.in-None.ensures
     ∙ ap (note writer misreads) (sym (otherwise-is writer (λ form. call_reference writer locals form c.args.method.now c.args.arity)
     (on_owner (class_of_only_declaration writer.program c.args.method.now))
     (reads_method writer locals c.args.method.now c.args.arity) (method-reads writer locals c.args.method.now c.args.arity)
     (ap (reads_method writer locals c.args.method.now) (sym c.in_ok-count.ensures.ok) ∙ sym c.reads_method.ensures
-    ∙ c.if-reads_method.false)))) c.note.ensures
+    ∙ c.if-reads_method.false)))) c.note_simply.ensures

@@ -1,6 +1,6 @@
-use Rattle.std.proofs.Common.{refl, ap, ◌∙◌}
+use Rattle.std.proofs.Common.{refl, ap}
 use Rattle.std.proofs.lemmas.Result.{on_ok_weaker}
-use Rattle.mol_asked.specs.Answers.{is_answer, target_of}
+use Rattle.mol_asked.specs.Answers.{target_of}
 use Rattle.mol_expr_misreads.proofs.ReadHere.{reads-so}
 use Rattle.mol_spelling.specs.SpelledExpressions.{plain}
 use Rattle.mol_spelling.specs.Writers.{super_constructor_asked}
@@ -14,5 +14,4 @@ returns g c =
     let kept = c.args.self.now.locals.now in
     on_ok_weaker c.note.result (λ noted. noted (plain writer locals (target_of c.args.target.now)
     (super_constructor_asked c.args.arity)) (refl)
-    (reads-so writer locals place kept c.requires _ (target_of c.args.target.now) _ locals _ _ (c.is-reads.ensures ∙ ap (is_answer _)
-    (c.super_constructor.ensures locals)) (refl) (ap super_constructor_asked c.in_ok-count.ensures.ok))) c.note.ensures
+    (reads-so writer locals place kept c.requires _ (target_of c.args.target.now) _ locals _ _ (c.super_reads-reads.ensures locals) refl (ap super_constructor_asked c.in_ok-count.ensures.ok))) c.note.ensures

@@ -1,12 +1,20 @@
 use Rattle.std.proofs.Common.{◌∷◌, None, refl, sym, ap, ◌∙◌}
-use Rattle.mol_expr_misreads.proofs.ReadHere.{reads-so}
+use Rattle.mol_expr_misreads.proofs.ReadHere.{is-place, reads-there}
 use Rattle.mol_expr_misreads.specs.Names.{class_reference}
 use Rattle.mol_references.specs.References.{outside_target}
 use Rattle.mol_spelling.specs.SpelledExpressions.{asks_outside}
 use Rattle.mol_expr_misreads.proofs.expr_reader.ExprReader.outside_class.Goals as goal
 
-pub outside_reads-reads-requires : goal.outside_reads-reads-requires
-outside_reads-reads-requires g c =
+pub outside_reads-requires-clause-at : goal.outside_reads-requires-clause-at
+outside_reads-requires-clause-at g c =
+    let writer = g.N.Names.writer c.args.self.now.names.now in
+    let locals = g.N.Names.locals c.args.self.now.names.now in
+    let place = c.args.self.now.place in
+    let kept = c.args.self.now.locals.now in
+    is-place writer locals place kept c.requires c.instead_place-place.result c.instead_place-place.ensures.names c.instead_place-place.ensures.locals
+
+pub outside_reads-requires-clause-names : goal.outside_reads-requires-clause-names
+outside_reads-requires-clause-names g c =
     c.as_slice.ensures.value ∙ c.in_ok-names.ensures ∙ ap (λ names. names.first ∷ names.rest) (sym c.dotted.ensures)
 
 pub returns : goal.returns
@@ -18,8 +26,8 @@ returns g c =
     record {
       noted = c.in_ok-note.ensures (class_reference writer locals c.args.full.now None) (ap
           (λ text. outside_target text) c.as_str.ensures)
-          (reads-so writer locals place kept c.requires _ (outside_target c.args.full.now) _ locals _ _
-          (c.outside_reads-reads.ensures writer locals c.requires.at) (ap (λ text. outside_target text) c.as_str.ensures) (ap
-          (λ names. asks_outside writer locals names None) (c.dotted.ensures ∙ c.in_ok-spelled.ensures)));
+          (reads-there writer locals place kept c.requires c.instead_place-place.result c.instead_place-place.ensures.names c.instead_place-place.ensures.locals _
+          (outside_target c.args.full.now) _ _ _ (c.in_ok-reads.ensures writer locals) (ap (λ text. outside_target text) c.as_str.ensures)
+          (ap (λ names. asks_outside writer locals names None) (c.dotted.ensures ∙ c.in_ok-spelled.ensures)));
       typed = refl;
     }

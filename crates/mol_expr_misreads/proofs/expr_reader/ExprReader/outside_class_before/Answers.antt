@@ -1,16 +1,25 @@
-use Rattle.std.proofs.Common.{◌∷◌, ◌++◌, Some, refl, sym, ap, ◌∙◌}
-use Rattle.mol_expr_misreads.proofs.CutNames.{is-some}
-use Rattle.mol_expr_misreads.proofs.ReadHere.{reads-so}
+use Rattle.std.proofs.Common.{◌∷◌, Some, refl, sym, ap, ◌∙◌}
+use Rattle.mol_expr_misreads.proofs.NamesAdded.{are-many, are-some, are-within, go-on}
+use Rattle.mol_expr_misreads.proofs.ReadHere.{is-place, reads-there}
 use Rattle.mol_expr_misreads.specs.Names.{class_reference}
 use Rattle.mol_references.specs.References.{outside_target}
 use Rattle.mol_spelling.specs.Writers.{path_asked}
 use Rattle.mol_expr_misreads.proofs.expr_reader.ExprReader.outside_class_before.Goals as goal
 
-pub path_reads-reads-requires : goal.path_reads-reads-requires
-path_reads-reads-requires g c =
-    is-some _ _ _ (c.as_slice.ensures.value ∙ c.in_ok-add_to.ensures
-    ∙ ap (λ names. names ++ c.args.follow.now) (c.in_ok-names.ensures ∙ ap (λ names. names.first ∷ names.rest)
-    (sym c.dotted.ensures)))
+pub path_reads-requires-clause-at : goal.path_reads-requires-clause-at
+path_reads-requires-clause-at g c =
+    let writer = g.N.Names.writer c.args.self.now.names.now in
+    let locals = g.N.Names.locals c.args.self.now.names.now in
+    let place = c.args.self.now.place in
+    let kept = c.args.self.now.locals.now in
+    is-place writer locals place kept c.requires c.instead_place-place.result c.instead_place-place.ensures.names c.instead_place-place.ensures.locals
+
+pub path_reads-requires-clause-some : goal.path_reads-requires-clause-some
+path_reads-requires-clause-some g c = are-some _ _ _ _ c.in_ok-names.ensures (c.len-count.ensures ∙ c.in_ok-names.names.ok.0)
+
+pub path_reads-requires-clause-within : goal.path_reads-requires-clause-within
+path_reads-requires-clause-within g c =
+    are-within _ _ _ _ c.in_ok-names.ensures (c.len-count.ensures ∙ c.in_ok-names.names.ok.0) _ _ (c.as_slice.ensures.value ∙ c.in_ok-add_to.ensures)
 
 pub returns : goal.returns
 returns g c =
@@ -18,13 +27,17 @@ returns g c =
     let locals = g.N.Names.locals c.args.self.now.names.now in
     let place = c.args.self.now.place in
     let kept = c.args.self.now.locals.now in
+    let follow = c.args.follow.now in
+    let spelled = c.in_ok-names.ensures ∙ ap (λ names. names.first ∷ names.rest) (sym c.dotted.ensures) in
     record {
-      noted = c.in_ok-note.ensures (class_reference writer locals c.args.full.now (Some c.args.follow.now)) (ap
+      noted = c.in_ok-note.ensures (class_reference writer locals c.args.full.now (Some follow)) (ap
           (λ text. outside_target text) c.as_str.ensures)
-          (reads-so writer locals place kept c.requires _ (outside_target c.args.full.now) _ locals _ _
-          (c.path_reads-reads.ensures locals c.args.follow.now c.requires.at (c.as_slice.ensures.value ∙ c.in_ok-add_to.ensures
-          ∙ ap (λ names. names ++ c.args.follow.now) (c.in_ok-names.ensures ∙ ap (λ names. names.first ∷ names.rest)
-          (sym c.dotted.ensures)))) (ap (λ text. outside_target text) c.as_str.ensures) (ap
-          (λ names. path_asked names c.args.follow.now) (c.dotted.ensures ∙ c.in_ok-spelled.ensures)));
+          (reads-there writer locals place kept c.requires c.instead_place-place.result c.instead_place-place.ensures.names c.instead_place-place.ensures.locals _
+          (outside_target c.args.full.now) _ _ _
+          (c.in_ok-reads.ensures follow
+          (go-on _ _ _ _ spelled (c.len-count.ensures ∙ c.in_ok-names.names.ok.0) _ follow (c.as_slice.ensures.value ∙ c.in_ok-add_to.ensures))
+          (are-many _ _ _ _ spelled (c.len-count.ensures ∙ c.in_ok-names.names.ok.0)))
+          (ap (λ text. outside_target text) c.as_str.ensures)
+          (ap (λ names. path_asked names follow) (c.dotted.ensures ∙ c.in_ok-spelled.ensures)));
       typed = refl;
     }

@@ -2,12 +2,12 @@ use Rattle.std.proofs.Common.{◌∙◌, map, sym, ap}
 use Rattle.std.proofs.lemmas.Result.{on_ok_weaker}
 use Rattle.mol_expr_misreads.specs.Noted.{Noted}
 use Rattle.mol_misread_faults.proofs.cells.FileCells.add_cell.Goals as goal
-use Rattle.mol_misread_faults.specs.Found.{fault_of, misread_of}
+use Rattle.mol_misread_faults.specs.Found.{found_at, kept_name}
 use Rattle.mol_ordered.proofs.Added.{adds}
 use Rattle.mol_table.specs.Program.{cell}
 
 pub returns : goal.returns
 returns g c =
-    on_ok_weaker c.add_rows.result (adds (map fault_of c.args.rows.now.items) _ _ _
-    (ap (map (misread_of (cell c.args.id.now c.args.slot))) (sym (c.into_items.ensures
-    ∙ ap (λ (noted : Noted). noted.misread) c.in_ok-misreads.ensures)))) c.add_rows.ensures
+    on_ok_weaker c.add_names.result (adds (map kept_name c.args.names.now.items) _ _ _
+    (ap (map (found_at (cell c.args.id.now c.args.slot))) (sym (c.into_items.ensures
+    ∙ ap (λ (noted : Noted). noted.misread) c.in_ok-misreads.ensures)))) c.add_names.ensures

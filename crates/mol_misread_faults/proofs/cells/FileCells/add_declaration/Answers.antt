@@ -2,7 +2,7 @@ use Rattle.std.proofs.Common.{map}
 use Rattle.std.proofs.lemmas.Result.{on_ok_weaker}
 use Rattle.mol_misread_faults.proofs.SameFile.{three-cells}
 use Rattle.mol_misread_faults.proofs.cells.FileCells.add_declaration.Goals as goal
-use Rattle.mol_misread_faults.specs.Found.{fault_of}
+use Rattle.mol_misread_faults.specs.Found.{kept_name}
 use Rattle.mol_table.specs.Program.{cell}
 use Rattle.mol_values.specs.declared.cell.Slot.TheVariants as slots
 
@@ -11,5 +11,5 @@ returns g c =
     let cells = c.args.self.now in
     on_ok_weaker c.add_cell-3.result (three-cells cells.index.now (g.F.FileNames.imports cells.file.now)
     (g.F.FileNames.simple cells.file.now) cells.class (cell c.args.method.now slots.Result) (cell c.args.method.now slots.Params)
-    (cell c.args.id.now slots.Body) (map fault_of c.args.rows.now.items) _ _ _ c.in_ok-add_cell.ensures c.in_ok-add_cell-2.ensures)
+    (cell c.args.id.now slots.Body) (map kept_name c.args.names.now.items) _ _ _ c.in_ok-add_cell.ensures c.in_ok-add_cell-2.ensures)
     c.add_cell-3.ensures

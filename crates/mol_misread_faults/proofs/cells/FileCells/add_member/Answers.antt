@@ -4,7 +4,7 @@ use Rattle.std.proofs.lemmas.Result.{on_ok_weaker}
 use Rattle.std.specs.Prelude.{OnOk}
 use Rattle.mol_misread_faults.proofs.SameFile.{one-cell}
 use Rattle.mol_misread_faults.proofs.cells.FileCells.add_member.Goals as goal
-use Rattle.mol_misread_faults.specs.Found.{fault_of, member_misreads}
+use Rattle.mol_misread_faults.specs.Found.{kept_name, member_misreads}
 use Rattle.mol_table.specs.Program.{cell}
 use Rattle.mol_values.specs.declared.cell.Slot.TheVariants as slots
 use Rattle.mol_values.specs.declared.known.Known.{Known}
@@ -14,8 +14,8 @@ returns-in-Field g c =
     let cells = c.args.self.now in
     let imports = g.F.FileNames.imports cells.file.now in
     let simple = g.F.FileNames.simple cells.file.now in
-    let so_far = map fault_of c.args.rows.now.items in
-    subst (λ (known : Known). OnOk c.add_cell.result (map fault_of c.add_cell.new.rows.items
+    let so_far = map kept_name c.args.names.now.items in
+    subst (λ (known : Known). OnOk c.add_cell.result (map kept_name c.add_cell.new.names.items
     ≡ so_far ++ member_misreads cells.index.now imports simple cells.class (c.args.id.now, known))) (sym c.in-Field.is)
     (on_ok_weaker c.add_cell.result
     (one-cell cells.index.now imports simple cells.class (cell c.args.id.now slots.Value) so_far _) c.add_cell.ensures)
@@ -25,8 +25,8 @@ returns-in-Decl g c =
     let cells = c.args.self.now in
     let imports = g.F.FileNames.imports cells.file.now in
     let simple = g.F.FileNames.simple cells.file.now in
-    let so_far = map fault_of c.args.rows.now.items in
-    subst (λ (known : Known). OnOk c.add_declaration.result (map fault_of c.add_declaration.new.rows.items
+    let so_far = map kept_name c.args.names.now.items in
+    subst (λ (known : Known). OnOk c.add_declaration.result (map kept_name c.add_declaration.new.names.items
     ≡ so_far ++ member_misreads cells.index.now imports simple cells.class (c.args.id.now, known))) (sym c.in-Decl.is)
     c.add_declaration.ensures
 
@@ -35,7 +35,7 @@ returns-in-Class g c =
     let cells = c.args.self.now in
     let imports = g.F.FileNames.imports cells.file.now in
     let simple = g.F.FileNames.simple cells.file.now in
-    let so_far = map fault_of c.args.rows.now.items in
+    let so_far = map kept_name c.args.names.now.items in
     subst (λ (known : Known). so_far ≡ so_far ++ member_misreads cells.index.now imports simple cells.class (c.args.id.now, known))
     (sym c.in-Class.is) (sym (append-nil so_far))
 
@@ -44,7 +44,7 @@ returns-in-Method g c =
     let cells = c.args.self.now in
     let imports = g.F.FileNames.imports cells.file.now in
     let simple = g.F.FileNames.simple cells.file.now in
-    let so_far = map fault_of c.args.rows.now.items in
+    let so_far = map kept_name c.args.names.now.items in
     subst (λ (known : Known). so_far ≡ so_far ++ member_misreads cells.index.now imports simple cells.class (c.args.id.now, known))
     (sym c.in-Method.is) (sym (append-nil so_far))
 
@@ -53,6 +53,6 @@ returns-in-Param g c =
     let cells = c.args.self.now in
     let imports = g.F.FileNames.imports cells.file.now in
     let simple = g.F.FileNames.simple cells.file.now in
-    let so_far = map fault_of c.args.rows.now.items in
+    let so_far = map kept_name c.args.names.now.items in
     subst (λ (known : Known). so_far ≡ so_far ++ member_misreads cells.index.now imports simple cells.class (c.args.id.now, known))
     (sym c.in-Param.is) (sym (append-nil so_far))

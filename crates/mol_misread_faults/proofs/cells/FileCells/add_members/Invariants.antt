@@ -1,11 +1,11 @@
 use Rattle.std.proofs.Common.{◌≡◌, ◌++◌, map, drop}
 use Rattle.mol_class_members.specs.Members.{member_entry}
 use Rattle.mol_misread_faults.proofs.cells.FileCells.add_members.Given as goal
-use Rattle.mol_misread_faults.specs.Found.{fault_of, members_misreads}
+use Rattle.mol_misread_faults.specs.Found.{kept_name, members_misreads}
 
 abbrev pub invariant-loop-member : goal.invariant-loop-member
 invariant-loop-member g l =
     let file = l.self.file.now in
     let of = members_misreads l.self.index.now (g.F.FileNames.imports file) (g.F.FileNames.simple file) l.self.class in
-    map fault_of l.rows.items ++ of (map member_entry (drop l.member-index l.members))
-    ≡ map fault_of l.initial.rows.items ++ of (map member_entry l.members)
+    map kept_name l.names.items ++ of (map member_entry (drop l.member-index l.members))
+    ≡ map kept_name l.initial.names.items ++ of (map member_entry l.members)

@@ -1,0 +1,10 @@
+use Rattle.std.proofs.Common.{◌≡◌, map, take}
+use Rattle.mol_fault.specs.Kept.{kept_target}
+use Rattle.mol_faults.specs.Met.{met_among}
+use Rattle.mol_misread_faults.specs.Found.{kept_name}
+use Rattle.mol_support.specs.Met.{kept_met}
+use Rattle.mol_faults.proofs.support.met_among.Given as goal
+
+abbrev pub invariant-loop-name : goal.invariant-loop-name
+invariant-loop-name l =
+    map kept_met l.met.items ≡ met_among l.at l.number (kept_target l.target) (map kept_name (take l.name-index l.names))

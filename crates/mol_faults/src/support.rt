@@ -1,0 +1,97 @@
+//! The support of a fault.
+ghost use Rattle.std.specs.Prelude.{◌≡◌, ◌++◌, IfOk, OnOk, map};
+ghost use Rattle.std.specs.Option.{option_to_list};
+ghost use Rattle.mol_expr_misreads.specs.Kept.{kept_misread};
+ghost use Rattle.mol_fault.specs.Kept.{kept_fault, kept_target};
+ghost use Rattle.mol_faults.specs.Met.{met_among, met_by, met_in};
+ghost use Rattle.mol_misread_faults.specs.Found.{kept_name};
+ghost use Rattle.mol_spelling.specs.Support.{IsSupport};
+ghost use Rattle.mol_support.specs.Met.{kept_met, HasMet};
+
+use mol_base::{List, OutOfMemory};
+use mol_expr_misreads::Misread;
+use mol_fault::{Fault, Target};
+use mol_misread_faults::{MisreadName, misread_names};
+use mol_support::{Met, support as support_by};
+use mol_table::{Cell, Table};
+use std::alloc::Global;
+
+/// The cells that a fault of a program rests on, ascending: what its condition looks at first, so that the operations that last wrote them
+/// can be told with it.
+///
+/// The time is that of some look-ups for each known identity, of going through the value of the cell that refers to what is gone, and of
+/// sorting the cells; of a misread name it is that of finding all misread names. `Err` is want of memory.
+pub fn support(alloc: Global, table: &Table, fault: &Fault) -> Result<List<Cell>, OutOfMemory>
+    ensures { IfOk result (IsSupport table.now (kept_fault fault.now)) }
+{
+    let met = met_by_fault(alloc, table, fault)?;
+    support_by(alloc, table, fault, met.as_slice())
+}
+
+/// What a misread name has to do with; nothing for another fault.
+fn met_by_fault(alloc: Global, table: &Table, fault: &Fault) -> Result<Vec<Met>, OutOfMemory>
+    ensures { IfOk result (λ met. HasMet table.now (kept_fault fault.now) (map kept_met met.items)) }
+{
+    match fault {
+        Fault::Misread(at, number, target) => {
+            let tidied = table.tidy(alloc)?;
+            let names = misread_names(alloc, &tidied)?;
+            met_among(alloc, names.as_slice(), at, *number, target)
+        },
+        _ => Ok(Vec::new(alloc)),
+    }
+}
+
+/// What the name of this number in a cell, with this target, has to do with, in whichever of these it is misread.
+fn met_among(
+    alloc: Global,
+    names: &[MisreadName],
+    at: &Cell,
+    number: u32,
+    target: &Target,
+) -> Result<Vec<Met>, OutOfMemory>
+    ensures { IfOk result (λ met.
+        map kept_met met.items ≡ met_among at.now number (kept_target target.now) (map kept_name names.now)) }
+{
+    let mut met = Vec::new(alloc);
+    for name in names {
+        add_met(&mut met, name, at, number, target)?;
+    }
+    Ok(met)
+}
+
+/// Adds what a misread name has to do with, if it is that of this number in a cell, with this target.
+fn add_met(
+    met: &mut Vec<Met>,
+    name: &MisreadName,
+    at: &Cell,
+    number: u32,
+    target: &Target,
+) -> Result<(), OutOfMemory>
+    ensures { OnOk result (map kept_met met.new.items
+        ≡ map kept_met met.old.items ++ met_in at.now number (kept_target target.now) (kept_name name.now)) }
+{
+    if name.is(at, number, target) {
+        add_both(met, &name.misread)
+    } else {
+        Ok(())
+    }
+}
+
+/// Adds what of the program a name is the name of, and what it reads as instead.
+fn add_both(met: &mut Vec<Met>, name: &Misread) -> Result<(), OutOfMemory>
+    ensures { OnOk result (map kept_met met.new.items ≡ map kept_met met.old.items ++ met_by (kept_misread name.now)) }
+{
+    add_some(met, name.named)?;
+    add_some(met, name.instead)
+}
+
+/// Adds it, where there is one.
+fn add_some(met: &mut Vec<Met>, added: Option<Met>) -> Result<(), OutOfMemory>
+    ensures { OnOk result (map kept_met met.new.items ≡ map kept_met met.old.items ++ map kept_met (option_to_list added)) }
+{
+    if let Some(added) = added {
+        met.push(added)?;
+    }
+    Ok(())
+}

@@ -1,0 +1,7 @@
+pub mod ClassPaths
+pub mod Members
+pub mod NamesCut
+pub mod ReadsOn
+pub mod Said
+pub mod SaidInstead
+pub mod Words
