@@ -1,4 +1,5 @@
 //! What the parser answers of tokens, as text: places are numbers of tokens, counted from 0.
+use crate::trees::{block_shown, members_shown, type_shown};
 use jav_lex::Token;
 use jav_parse::{ParseFault, parse, parse_body, parse_expr, parse_member, parse_type};
 use mol_base::OutOfMemory;
@@ -102,4 +103,35 @@ pub fn prefixes_of(
         }
     }
     Ok(format!(in alloc; "{trees} trees, {early} end too early, {others} others")?)
+}
+
+/// The tree of these tokens in one of the languages of members, bodies and types.
+pub fn tree_of(alloc: Global, language: Language, tokens: &[Token]) -> Result<String, OutOfMemory> {
+    match language {
+        Language::Member => member_tree(alloc, tokens),
+        Language::Body => body_tree(alloc, tokens),
+        Language::Type => type_tree(alloc, tokens),
+        Language::Unit | Language::Expr => Ok(String::from_str(alloc, "not shown")?),
+    }
+}
+
+fn member_tree(alloc: Global, tokens: &[Token]) -> Result<String, OutOfMemory> {
+    match parse_member(alloc, tokens) {
+        Ok(members) => members_shown(alloc, members.items()),
+        Err(_) => Ok(String::from_str(alloc, "no tree")?),
+    }
+}
+
+fn body_tree(alloc: Global, tokens: &[Token]) -> Result<String, OutOfMemory> {
+    match parse_body(alloc, tokens) {
+        Ok(body) => block_shown(alloc, &body),
+        Err(_) => Ok(String::from_str(alloc, "no tree")?),
+    }
+}
+
+fn type_tree(alloc: Global, tokens: &[Token]) -> Result<String, OutOfMemory> {
+    match parse_type(alloc, tokens) {
+        Ok(ty) => type_shown(alloc, &ty),
+        Err(_) => Ok(String::from_str(alloc, "no tree")?),
+    }
 }

@@ -1,12 +1,13 @@
 //! Parses texts and prints what the parser answers of each. A line of standard input is the name of a language and
-//! pieces of a text, separated by spaces; a piece `N*PIECE` stands for N of it. A first word `prefixes` asks for every
-//! prefix of the tokens.
+//! pieces of a text, separated by spaces; a piece `N*PIECE` stands for N of it, and a piece `\n` for the end of a line. A
+//! first word `prefixes` asks for every prefix of the tokens, and `tree` for the tree.
 #![tactic(auto)]
 
 mod answer;
 mod pieces;
+mod trees;
 
-use answer::{Language, answer_of, prefixes_of};
+use answer::{Language, answer_of, prefixes_of, tree_of};
 use jav_lex::lex;
 use mol_base::OutOfMemory;
 use pieces::text_of;
@@ -19,7 +20,7 @@ const LONGEST: usize = 1 << 30;
 /// What the parser answers of the text of a line.
 fn line_answer(alloc: Global, line: &str) -> Result<String, OutOfMemory> {
     let (word, rest) = line.split_once(' ').unwrap_or((line, ""));
-    let (name, pieces) = if word == "prefixes" {
+    let (name, pieces) = if word == "prefixes" || word == "tree" {
         rest.split_once(' ').unwrap_or((rest, ""))
     } else {
         (word, rest)
@@ -33,6 +34,7 @@ fn line_answer(alloc: Global, line: &str) -> Result<String, OutOfMemory> {
     }
     match lex(alloc, text.as_bytes()) {
         Ok(tokens) if word == "prefixes" => prefixes_of(alloc, language, tokens.items()),
+        Ok(tokens) if word == "tree" => tree_of(alloc, language, tokens.items()),
         Ok(tokens) => answer_of(alloc, language, tokens.items()),
         Err(fault) => Ok(format!(in alloc; "{fault}")?),
     }
