@@ -14,7 +14,7 @@ use Rattle.mol_misread_faults.proofs.NamesTold.{Is, name-own, name-same}
 use Rattle.mol_misread_faults.specs.Found.{Found, IsMisread, is_name}
 use Rattle.mol_references.specs.References.{Target}
 use Rattle.mol_spell.proofs.Stands.{behind, from_each, in_each, in_either, in_front}
-use Rattle.mol_spelling.specs.FaultList.{FaultTarget, fault_target}
+use Rattle.mol_spelling.specs.FaultList.{FaultTarget, fault_target, misread}
 use Rattle.mol_spelling.specs.NameFaults.{unit_reader, MisreadIn}
 use Rattle.mol_spelling.specs.ReadInstead.{instead}
 use Rattle.mol_spelling.specs.Support.{IsMetBy, is_recorded, read_instead}
@@ -74,7 +74,7 @@ module _ (program : Program) where
         (read_instead reads.misread reads.is_target own.0, own.1)
 
   -- a misread name
-  name-of : (class : Id) (at : Cell) (number : ℕ) (target : Target) → MisreadIn (tidy program) class at number target → Found
+  abbrev name-of : (class : Id) (at : Cell) (number : ℕ) (target : Target) → MisreadIn (tidy program) class at number target → Found
   name-of class at number target reads = record {
     at = at;
     name = record {
@@ -122,12 +122,21 @@ module _ (program : Program) where
         met-stands class t met reads same (behind (option_to_list found.name.named) (option_to_list found.name.instead) met
         (in-option found.name.instead met (ap (option_and_then program_target) read ∙ program-own met own)))
 
-    pub met-are : (met : Target) → Contains (met_among at number target names) met ↔ MetBy at number target met
+    met-are : (met : Target) → Contains (met_among at number target names) met ↔ MetBy at number target met
     met-are met = (
       λ stands. let found = from_each (met_in at number target) names met stands in
           met-of met found.0 (is_name at number target found.0) refl ((are found.0).0 found.1) found.2,
       λ is. all-met met is.0 is.1,
     )
+
+-- what the misread names of a fault have to do with is what it has
+pub has-met : (program tidied : Program) (at : Cell) (number : ℕ) (target : FaultTarget) (names : List Found) → tidied ≡ tidy program
+    → ((found : Found) → Contains names found ↔ IsMisread tidied found) → (met : List Target) → met ≡ met_among at number target names
+    → HasMet program (misread at number target) met
+has-met program tidied at number target names is are met same t =
+    subst (λ (all : List Target). Contains all t ↔ (IsMetBy program at number target t × IsTrue (is_of_program t))) (sym same)
+    (met-are program at number target names
+    (λ found. subst (λ (p : Program). Contains names found ↔ IsMisread p found) is (are found)) t)
 
 -- another fault has to do with no name
 pub none-met : (program : Program) (fault : Fault) → ((at : Cell) (number : ℕ) (target : KeptTarget) → fault ≢ faults.Misread at number target)

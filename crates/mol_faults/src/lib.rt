@@ -3,9 +3,9 @@
 
 mod all;
 mod first;
-mod support;
+mod supports;
 
 pub use all::faults;
 pub use first::first_fault;
 pub use mol_fault::{Fault, Target};
-pub use support::support;
+pub use supports::support;

@@ -95,13 +95,13 @@ module _ (program : Program) where
       in-cell class found.0 name is found.1 found.2
 
   -- what is found is misread in a file
-  pub in-files : (ids : List Id) (name : Found) → Contains (all_misreads program ids) name → IsMisread program name
+  in-files : (ids : List Id) (name : Found) → Contains (all_misreads program ids) name → IsMisread program name
   in-files ids name stands =
       let found = from_each (class_misreads program) ids name stands in
       in-class found.0 name (is_living_class program found.0) refl found.2
 
   -- a name that is misread in a file
-  name-read : (class : Id) (at : Cell) (number : ℕ) (target : Target) → MisreadIn program class at number target → Found
+  abbrev name-read : (class : Id) (at : Cell) (number : ℕ) (target : Target) → MisreadIn program class at number target → Found
   name-read class at number target reads = found_at at (misreading (unit_writer program class at) number reads.reference)
 
   -- and what is misread in a file is found
@@ -133,13 +133,19 @@ module _ (program : Program) where
     instead = is.is_instead i;
   })
 
-  pub are-misread : (ids : List Id) → AreKnown program ids → (name : Found)
+  are-misread : (ids : List Id) → AreKnown program ids → (name : Found)
       → Contains (all_misreads program ids) name ↔ IsMisread program name
   are-misread ids known name = (
     in-files ids name,
     λ is. subst (Contains (all_misreads program ids)) (read-is name is)
         (is-found ids known is.class name.at name.name.number is.target is.misread),
   )
+
+  -- these are all of them
+  pub all-misread : (ids : List Id) → AreKnown program ids → (found : List Found) → found ≡ all_misreads program ids
+      → (name : Found) → Contains found name ↔ IsMisread program name
+  all-misread ids known found is name =
+      subst (λ (found : List Found). Contains found name ↔ IsMisread program name) (sym is) (are-misread ids known name)
 
 -- ---- the faults
 

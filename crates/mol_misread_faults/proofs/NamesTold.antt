@@ -50,6 +50,6 @@ name-same at number target found is =
     }
 
 pub name-own : (found : Found) → is_name found.at found.name.number found.name.target found ≡ true
-name-own found = (λ i. own-cell found.at i && number-own found.name.number i && target-own found.name.target i) where
+name-own found = (λ i. own-cell found.at i && (number-own found.name.number i && target-own found.name.target i)) where
   own-cell : (at : Cell) → eq_by_cmp cell_cmp at at ≡ true
   own-cell at = (eq_by_cmp_equiv cell_cmp-total).refl at

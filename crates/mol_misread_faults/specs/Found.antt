@@ -64,7 +64,7 @@ same_target first second = false
 -- the name of this number in a cell, with this target
 abbrev pub is_name : Cell → ℕ → FaultTarget → Found → Bool
 is_name at number target found =
-    eq_by_cmp cell_cmp at found.at && (number == found.name.number) && same_target target found.name.target
+    eq_by_cmp cell_cmp at found.at && ((number == found.name.number) && same_target target found.name.target)
 
 -- In the file of a living class a name of the program is misread, and this is it.
 pub record IsMisread (program : Program) (found : Found) : Type 0 where

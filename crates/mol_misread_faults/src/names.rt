@@ -1,5 +1,5 @@
 //! Misread names.
-ghost use Rattle.std.specs.Prelude.{◌≡◌, ◌↔◌, Contains, IfOk, map};
+ghost use Rattle.std.specs.Prelude.{◌≡◌, ◌==◌, ◌&&◌, ◌↔◌, Contains, IfOk, map};
 ghost use Rattle.mol_fault.specs.Kept.{kept_target};
 ghost use Rattle.mol_misread_faults.specs.Found.{Found, IsMisread, is_name, kept_name, same_target};
 ghost use Rattle.mol_spelling.specs.FaultList.{default_of, entity, local_of, outside_of};
@@ -26,7 +26,15 @@ impl MisreadName {
     pub fn is(&self, at: &Cell, number: u32, target: &Target) -> bool
         ensures { result ≡ is_name at.now number (kept_target target.now) (kept_name self.now) }
     {
-        at == &self.at && number == self.misread.number && same_target(target, &self.misread.target)
+        at == &self.at && self.is_numbered(number, target)
+    }
+
+    /// Whether this is the name of a number, with this target.
+    fn is_numbered(&self, number: u32, target: &Target) -> bool
+        ensures { result ≡ ((number == self.now.misread.number)
+            && same_target (kept_target target.now) (kept_target self.now.misread.target)) }
+    {
+        number == self.misread.number && same_target(target, &self.misread.target)
     }
 }
 

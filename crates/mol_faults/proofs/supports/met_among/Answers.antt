@@ -6,7 +6,7 @@ use Rattle.mol_faults.specs.Met.{met_among, met_in}
 use Rattle.mol_misread_faults.specs.Found.{kept_name}
 use Rattle.mol_misread_faults.specs.declared.names.MisreadName.{MisreadName}
 use Rattle.std.specs.Prelude.{List}
-use Rattle.mol_faults.proofs.support.met_among.Goals as goal
+use Rattle.mol_faults.proofs.supports.met_among.Goals as goal
 
 pub loop-name-preserved : goal.loop-name-preserved
 loop-name-preserved c =

@@ -1,8 +1,8 @@
-use Rattle.std.proofs.Common.{◌≡◌, ◌∙◌, ◌++◌, map, Option, None, Some, option_map, refl, ap, append_assoc}
+use Rattle.std.proofs.Common.{map}
 use Rattle.std.proofs.lemmas.Result.{on_ok_weaker}
 use Rattle.mol_faults.proofs.MetAdded.{both-added}
 use Rattle.mol_support.specs.Met.{kept_met}
-use Rattle.mol_faults.proofs.support.add_both.Goals as goal
+use Rattle.mol_faults.proofs.supports.add_both.Goals as goal
 
 pub returns : goal.returns
 returns c =

@@ -1,7 +1,7 @@
 use Rattle.std.proofs.Common.{◌∙◌, map, sym, ap, subst}
 use Rattle.mol_fault.specs.Kept.{kept_fault}
 use Rattle.mol_support.specs.Met.{kept_met, HasMet}
-use Rattle.mol_faults.proofs.support.support.Goals as goal
+use Rattle.mol_faults.proofs.supports.support.Goals as goal
 
 pub support-requires : goal.support-requires
 support-requires c = subst (λ met. HasMet c.args.table.now (kept_fault c.args.fault.now) (map kept_met met)) (sym c.as_slice.ensures.value)

@@ -4,7 +4,7 @@ use Rattle.std.proofs.lemmas.Result.{on_ok_weaker}
 use Rattle.mol_expr_misreads.specs.Kept.{kept_misread}
 use Rattle.mol_faults.specs.Met.{met_by}
 use Rattle.mol_support.specs.Met.{kept_met}
-use Rattle.mol_faults.proofs.support.add_met.Goals as goal
+use Rattle.mol_faults.proofs.supports.add_met.Goals as goal
 
 pub returns-then-is : goal.returns-then-is
 returns-then-is c =

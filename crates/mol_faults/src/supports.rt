@@ -5,6 +5,7 @@ ghost use Rattle.mol_expr_misreads.specs.Kept.{kept_misread};
 ghost use Rattle.mol_fault.specs.Kept.{kept_fault, kept_target};
 ghost use Rattle.mol_faults.specs.Met.{met_among, met_by, met_in};
 ghost use Rattle.mol_misread_faults.specs.Found.{kept_name};
+ghost use Rattle.mol_spelling.specs.FaultList.{misread};
 ghost use Rattle.mol_spelling.specs.Support.{IsSupport};
 ghost use Rattle.mol_support.specs.Met.{kept_met, HasMet};
 
@@ -33,13 +34,25 @@ fn met_by_fault(alloc: Global, table: &Table, fault: &Fault) -> Result<Vec<Met>,
     ensures { IfOk result (λ met. HasMet table.now (kept_fault fault.now) (map kept_met met.items)) }
 {
     match fault {
-        Fault::Misread(at, number, target) => {
-            let tidied = table.tidy(alloc)?;
-            let names = misread_names(alloc, &tidied)?;
-            met_among(alloc, names.as_slice(), at, *number, target)
-        },
+        Fault::Misread(at, number, target) => met_by_name(alloc, table, at, *number, target),
         _ => Ok(Vec::new(alloc)),
     }
+}
+
+/// What the name of this number in a cell, with this target, has to do with where it is misread.
+fn met_by_name(
+    alloc: Global,
+    table: &Table,
+    at: &Cell,
+    number: u32,
+    target: &Target,
+) -> Result<Vec<Met>, OutOfMemory>
+    ensures { IfOk result (λ met.
+        HasMet table.now (misread at.now number (kept_target target.now)) (map kept_met met.items)) }
+{
+    let tidied = table.tidy(alloc)?;
+    let names = misread_names(alloc, &tidied)?;
+    met_among(alloc, names.as_slice(), at, number, target)
 }
 
 /// What the name of this number in a cell, with this target, has to do with, in whichever of these it is misread.
