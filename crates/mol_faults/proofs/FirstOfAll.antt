@@ -1,5 +1,5 @@
 -- The first of all faults in order goes before each other one.
-use Rattle.std.proofs.Common.{◌≡◌, ◌⊎◌, inl, inr, ℕ, ◌<◌, List, [], ◌∷◌, ◌++◌, map, length, Option, None, Some, option_map, Contains, refl, sym, ap, arith, true≢false}
+use Rattle.std.proofs.Common.{◌≡◌, ◌⊎◌, inl, inr, ℕ, ◌<◌, List, [], ◌∷◌, ◌++◌, map, length, Option, None, Some, option_map, Contains, refl, sym, ap, subst, arith, true≢false}
 use Rattle.std.specs.Prelude.{◌↔◌, IsSome}
 use Rattle.std.specs.Option.{option_to_list}
 use Rattle.std.proofs.lemmas.List.Elements.{All-contains}
@@ -9,11 +9,7 @@ use Rattle.jav_view.proofs.Lists.{stands_first, stands_where}
 use Rattle.mol_spelling.proofs.FaultsOrdered.{faults_determined}
 use Rattle.mol_spelling.specs.FaultList.{Fault, fault_cmp, AreFaults}
 use Rattle.mol_table.specs.Program.{Program}
-use Rattle.mol_faults.specs.First.{IsFirst}
-
-abbrev pub first_of : {X : Type 0} → List X → Option X
-first_of [] = None
-first_of (x ∷ xs) = Some x
+use Rattle.mol_faults.specs.First.{IsFirst, first_of}
 
 pub first-mapped : {X Y : Type 0} (f : X → Y) (xs : List X) → first_of (map f xs) ≡ option_map f (first_of xs)
 first-mapped f [] = refl
@@ -26,7 +22,7 @@ first-taken (Some x) all rest count is some so_many = ap first_of is
 first-taken None [] rest count is some so_many = refl
 first-taken None (x ∷ xs) rest count is some so_many = absurd (true≢false (sym (some.1 (omega (arith, so_many)))))
 
-pub is-first : (program : Program) (faults : List Fault) → AreFaults program faults → IsFirst program (first_of faults)
+is-first : (program : Program) (faults : List Fault) → AreFaults program faults → IsFirst program (first_of faults)
 is-first program [] are = (faults_determined.clean program [] are).0 refl
 is-first program (fault ∷ faults) are = record {
   is = (are.each fault).0 (stands_first fault faults);
@@ -36,3 +32,8 @@ is-first program (fault ∷ faults) are = record {
   by later (inl same) = inl same
   by later (inr rest) = inr (All-contains (λ next. fault_cmp fault next ≡ Less) faults later
       (All-after_first fault_cmp fault faults are.ascending) rest)
+
+-- what is the first of all faults as the program keeps them
+pub is-first-of : (program : Program) (faults : List Fault) (first : Option Fault) → first ≡ first_of faults → AreFaults program faults
+    → IsFirst program first
+is-first-of program faults first is are = subst (IsFirst program) (sym is) (is-first program faults are)

@@ -1,9 +1,13 @@
 -- The first fault of a program.
-use Rattle.std.specs.Prelude.{◌≡◌, ◌⊎◌, Option, None, Some}
+use Rattle.std.specs.Prelude.{◌≡◌, ◌⊎◌, List, [], ◌∷◌, Option, None, Some}
 use Rattle.std.specs.declared.cmp.Ordering.TheVariants.{Less}
 use Rattle.mol_spelling.specs.Clean.{Clean}
 use Rattle.mol_spelling.specs.FaultList.{Fault, IsFault, fault_cmp}
 use Rattle.mol_table.specs.Program.{Program}
+
+abbrev pub first_of : {X : Type 0} → List X → Option X
+first_of [] = None
+first_of (x ∷ xs) = Some x
 
 -- The program has this fault, and each other fault of it comes after this one.
 pub record IsFirstFault (program : Program) (fault : Fault) : Type 0 where

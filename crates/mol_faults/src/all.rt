@@ -24,9 +24,21 @@ pub fn faults(alloc: Global, table: &Table) -> Result<List<Fault>, OutOfMemory>
     ensures { IfOk result (λ faults. AreFaults table.now (map kept_fault faults)) }
 {
     let tidied = table.tidy(alloc)?;
+    Ok(List::from_vec(all_of(alloc, table, &tidied)?))
+}
+
+/// All faults of a program, which is also there tidied.
+pub(crate) fn all_of(
+    alloc: Global,
+    table: &Table,
+    tidied: &Table,
+) -> Result<Vec<Fault>, OutOfMemory>
+    requires { tidied.now ≡ tidy table.now }
+    ensures { IfOk result (λ all. AreFaults table.now (map kept_fault all.items)) }
+{
     let mut all = Vec::new(alloc);
-    add_all(alloc, &mut all, table, &tidied)?;
-    Ok(List::from_vec(all))
+    add_all(alloc, &mut all, table, tidied)?;
+    Ok(all)
 }
 
 /// Adds the faults of each kind, one kind after another.

@@ -1,9 +1,10 @@
 //! The first fault of a program.
-ghost use Rattle.std.specs.Prelude.{IfOk, option_map};
+ghost use Rattle.std.specs.Prelude.{◌≡◌, IfOk, map, option_map};
 ghost use Rattle.mol_fault.specs.Kept.{kept_fault};
-ghost use Rattle.mol_faults.specs.First.{IsFirst};
+ghost use Rattle.mol_faults.specs.First.{IsFirst, first_of};
+ghost use Rattle.mol_table.specs.Tidy.{tidy};
 
-use crate::all::faults;
+use crate::all::{all_of, faults};
 use mol_base::OutOfMemory;
 use mol_fault::Fault;
 use mol_table::Table;
@@ -14,6 +15,21 @@ use std::alloc::Global;
 pub fn first_fault(alloc: Global, table: &Table) -> Result<Option<Fault>, OutOfMemory>
     ensures { IfOk result (λ first. IsFirst table.now (option_map kept_fault first)) }
 {
-    let all = faults(alloc, table)?.into_vec();
-    Ok(all.into_iter().next())
+    Ok(first_of(faults(alloc, table)?.into_vec()))
+}
+
+/// The first fault of a program of which each value is tidied already, as each program is that sources read as. The answer is that of
+/// `first_fault`, and the table is not copied for it.
+pub fn first_fault_of_tidied(alloc: Global, table: &Table) -> Result<Option<Fault>, OutOfMemory>
+    requires { tidy table.now ≡ table.now }
+    ensures { IfOk result (λ first. IsFirst table.now (option_map kept_fault first)) }
+{
+    Ok(first_of(all_of(alloc, table, table)?))
+}
+
+/// The first of these, if there is one.
+fn first_of(faults: Vec<Fault>) -> Option<Fault>
+    ensures { option_map kept_fault result ≡ first_of (map kept_fault faults.items) }
+{
+    faults.into_iter().next()
 }

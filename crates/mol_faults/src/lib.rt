@@ -6,6 +6,6 @@ mod first;
 mod supports;
 
 pub use all::faults;
-pub use first::first_fault;
+pub use first::{first_fault, first_fault_of_tidied};
 pub use mol_fault::{Fault, Target};
 pub use supports::support;

@@ -80,3 +80,10 @@ pub spelled-as : {E : Type 0} (result : Result (List SpeltUnit) E) (program tidi
 spelled-as result program tidied index keys same are is made =
     subst (λ (files : List SpelledUnit). IfOk result (λ units. map spelled_of units ≡ files))
     ((λ i. map (unit_at (same i)) (map key_of keys)) ∙ files-spelt tidied (map key_of keys) are ∙ ap units_of is) made
+
+-- The spelling of a program once it is tidied is its spelling.
+pub spelled-once_tidied : {E : Type 0} (result : Result (List SpeltUnit) E) (program tidied : Program) → tidied ≡ tidy program
+    → tidy tidied ≡ tidied → IfOk result (λ units. map spelled_of units ≡ spelling tidied)
+    → IfOk result (λ units. map spelled_of units ≡ spelling program)
+spelled-once_tidied result program tidied is once made =
+    subst (λ (files : List SpelledUnit). IfOk result (λ units. map spelled_of units ≡ files)) (ap units_of (once ∙ is)) made

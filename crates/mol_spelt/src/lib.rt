@@ -6,5 +6,5 @@ mod names_of_file;
 mod spelling;
 mod spelt_unit;
 
-pub use spelling::spell;
+pub use spelling::{spell, spell_tidied};
 pub use spelt_unit::SpeltUnit;

@@ -1,6 +1,7 @@
 //! All files.
 ghost use Rattle.std.specs.Prelude.{◌≡◌, IfOk, map};
 ghost use Rattle.mol_spelling.specs.SpelledUnits.{spelling};
+ghost use Rattle.mol_table.specs.Tidy.{tidy};
 ghost use Rattle.mol_spelt.specs.Spelt.{spelled_of, unit_at};
 ghost use Rattle.mol_unit_keys.specs.Keys.{key_of};
 
@@ -19,9 +20,18 @@ pub fn spell(alloc: Global, table: &Table) -> Result<List<SpeltUnit>, OutOfMemor
     ensures { IfOk result (λ units. map spelled_of units ≡ spelling table.now) }
 {
     let tidied = table.tidy(alloc)?;
-    let index = MemberIndex::new(alloc, &tidied)?;
-    let members = ClassMembers::new(alloc, &tidied)?;
-    let keys = unit_keys(alloc, &tidied)?;
+    spell_tidied(alloc, &tidied)
+}
+
+/// The source files of a table of which each value is tidied already, as it is of each program that sources read as. The answer is that of
+/// `spell`, and the table is not copied for it.
+pub fn spell_tidied(alloc: Global, table: &Table) -> Result<List<SpeltUnit>, OutOfMemory>
+    requires { tidy table.now ≡ table.now }
+    ensures { IfOk result (λ units. map spelled_of units ≡ spelling table.now) }
+{
+    let index = MemberIndex::new(alloc, table)?;
+    let members = ClassMembers::new(alloc, table)?;
+    let keys = unit_keys(alloc, table)?;
     units_of(alloc, &index, &members, keys)
 }
 

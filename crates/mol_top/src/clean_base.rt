@@ -7,6 +7,7 @@ ghost use Rattle.mol_files.specs.Files.{ArePathsApart, AreSmall, file_pairs};
 ghost use Rattle.mol_report.specs.FaultText.{fault_text};
 ghost use Rattle.mol_spelling.specs.Clean.{Clean};
 ghost use Rattle.mol_table.specs.Rules.{IsProgram as KeepsRules};
+ghost use Rattle.mol_table.specs.Tidy.{tidy};
 ghost use Rattle.mol_top.specs.CleanBases.{CarriesBase, IsBaseStopped, IsCleanOf, IsReadOf};
 ghost use Rattle.mol_top.specs.Outside.{OnlyReads, store};
 ghost use Rattle.mol_top.specs.Refused.{IsRefusalOfFiles, IsRefusalOfProgram};
@@ -16,7 +17,7 @@ use crate::refusal::{Line, Refusal};
 use crate::status::{BaseFault, Status};
 use crate::store::read_base;
 use mol_base::{File, OutOfMemory, Text};
-use mol_faults::{Fault, first_fault};
+use mol_faults::{Fault, first_fault_of_tidied};
 use mol_outside::Files;
 use mol_program::read_program;
 use mol_report::fault_line;
@@ -43,6 +44,7 @@ pub fn read_clean_base<F: Files>(
 ) -> Result<CleanBase, Refusal>
     ensures only_reads { OnlyReads (store F.Files files.old) (store F.Files files.new) }
     ensures base { IfOk result (λ read. ForSome (F.holds files.old) (λ held. IsReadOf base.now held read)) }
+    ensures tidied { IfOk result (λ read. tidy read.table ≡ read.table) }
     ensures stop { IfErr result (IsBaseStopped base.now (store F.Files files.old) (store F.Files files.new)) }
     ensures carries { IfErr result (λ refusal. CarriesBase base.now refusal.status) }
 {
@@ -81,10 +83,11 @@ fn rules(table: &Table)
 
 /// Refuses a program that is not clean, for its first fault.
 fn refuse_unclean(alloc: Global, table: &Table) -> Result<(), Refusal>
+    requires { tidy table.now ≡ table.now }
     ensures clean { OnOk result (Clean table.now) }
     ensures stop { IfErr result (IsRefusalOfProgram table.now) }
 {
-    match first_fault(alloc, table) {
+    match first_fault_of_tidied(alloc, table) {
         Ok(None) => Ok(()),
         Ok(Some(fault)) => Err(unclean(alloc, table, fault)),
         Err(OutOfMemory) => Err(Refusal::out_of_memory()),

@@ -4,6 +4,7 @@ ghost use Rattle.std.specs.Option.{ForSome};
 ghost use Rattle.mol_files.specs.Files.{file_pair, file_pairs};
 ghost use Rattle.mol_spelling.specs.PrintedFiles.{printed_text};
 ghost use Rattle.mol_spelt.specs.Spelt.{spelled_of};
+ghost use Rattle.mol_table.specs.Tidy.{tidy};
 ghost use Rattle.mol_top.specs.Answers.{store_status};
 ghost use Rattle.mol_top.specs.Carried.{Carries, CarriesOwn, IsInside, NoPath};
 ghost use Rattle.mol_top.specs.Command.{fmt_paths};
@@ -27,7 +28,7 @@ use jav_height::printed_height;
 use jav_print::print;
 use mol_base::{File, List, OutOfMemory, Text};
 use mol_outside::Files;
-use mol_spelt::{SpeltUnit, spell};
+use mol_spelt::{SpeltUnit, spell_tidied};
 use mol_table::Table;
 use std::alloc::Global;
 
@@ -60,6 +61,7 @@ fn formatted<F: Files>(
     table: &Table,
     files: &mut F,
 ) -> Result<Work, StoreFault>
+    requires { tidy table.now ≡ table.now }
     ensures only_reads { OnlyReads (store F.Files files.old) (store F.Files files.new) }
     ensures ready { IfOk result IsReady }
     ensures work { IfOk result (λ work. ForSome (F.holds files.old) (λ held. MakesFiles out.now table.now held work)) }
@@ -82,10 +84,11 @@ struct ProgramFiles {
 
 /// The files of a program.
 fn program_files(alloc: Global, table: &Table) -> Result<ProgramFiles, OutOfMemory>
+    requires { tidy table.now ≡ table.now }
     ensures texts { IfOk result (λ made. file_pairs made.texts.items ≡ program_texts table.now) }
     ensures heights { IfOk result (λ made. made.heights.items ≡ program_heights table.now) }
 {
-    let units = spell(alloc, table)?;
+    let units = spell_tidied(alloc, table)?;
     unit_files(alloc, units)
 }
 

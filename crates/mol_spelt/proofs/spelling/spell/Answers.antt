@@ -1,11 +1,7 @@
-use Rattle.std.proofs.Common.{◌∙◌, sym}
-use Rattle.mol_spelt.proofs.FilesSpelt.{spelled-as}
+use Rattle.mol_spelt.proofs.FilesSpelt.{spelled-once_tidied}
 use Rattle.mol_spelt.proofs.spelling.spell.Goals as goal
-
-pub units_of-requires : goal.units_of-requires
-units_of-requires c = c.in_ok-members.ensures ∙ sym c.in_ok-index.ensures
 
 pub returns : goal.returns
 returns c =
-    spelled-as c.units_of.result c.args.table.now c.in_ok-tidied.tidied c.in_ok-index.index c.in_ok-keys.keys.items c.in_ok-index.ensures
-    c.in_ok-keys.ensures c.in_ok-tidied.ensures.ok c.units_of.ensures
+    spelled-once_tidied c.spell_tidied.result c.args.table.now c.in_ok-tidied.tidied c.in_ok-tidied.ensures.ok c.in_ok-tidied.ensures.tidied
+    c.spell_tidied.ensures
