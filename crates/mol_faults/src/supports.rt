@@ -18,7 +18,8 @@ use mol_table::{Cell, Table};
 use std::alloc::Global;
 
 /// The cells that a fault of a program rests on, ascending: what its condition looks at first, so that the operations that last wrote them
-/// can be told with it.
+/// can be told with it. The fault is to be one of this program. Of a misread name that it does not have, the cells are its cell and those
+/// that say whether its entity lives.
 ///
 /// The time is that of some look-ups for each known identity, of going through the value of the cell that refers to what is gone, and of
 /// sorting the cells; of a misread name it is that of finding all misread names. `Err` is want of memory.

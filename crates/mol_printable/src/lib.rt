@@ -7,7 +7,8 @@
 ghost use Rattle.mol_printable.specs.PrintableFiles.{FilesPrintable};
 
 /// The law of printable files: each file that a program is spelled as is a tree that the layout can print, with no parentheses in it,
-/// and within the limit of number, where the program keeps the rules of programs and is clean.
+/// and within the limit of number, where the program keeps the rules of programs and is clean; and so is each file of any program that keeps
+/// them in which `super(..)` stands in constructors alone.
 #[tactic(auto, using(crate::proofs::Files::files_printable))]
 pub fn files_printable()
     ensures { FilesPrintable }

@@ -19,7 +19,7 @@ use std::alloc::Global;
 
 /// The cells that a fault of a program rests on, ascending: what its condition looks at first. The program is as it is held: values are
 /// gone through before they are tidied. For a misread reference, `met` is what it has to do with: the target that is recorded, and what is
-/// read in its place in each file of the tidied program in which its cell prints, of these what is of the program and no local. For
+/// read in its place in each file of the tidied program in which it is misread, of these what is of the program and no local. For
 /// another fault `met` is not looked at.
 ///
 /// The time is that of some look-ups for each known identity, of going through the value of the cell that refers to what is gone, and of
