@@ -12,7 +12,7 @@ use Rattle.mol_expr_misreads.specs.Readings.{program_target}
 use Rattle.mol_fault.specs.OfKind.{AreOfKind}
 use Rattle.mol_misread_faults.proofs.MisreadRows.{IsRow, rows-are, rows-stand}
 use Rattle.mol_misread_faults.proofs.SameRows.{ordered-alike, row_cmp}
-use Rattle.mol_misread_faults.specs.Found.{Found, IsMisread, all_misreads, cell_misreads, class_misreads, fault_in, fault_of, file_misreads, found_at}
+use Rattle.mol_misread_faults.specs.Found.{AreMisread, Found, IsMisread, IsMisreadAs, all_misreads, cell_misreads, class_misreads, fault_in, fault_of, file_misreads, found_at}
 use Rattle.mol_misread_faults.specs.declared.row.Row.{Row}
 use Rattle.mol_ordered.proofs.Mapped.{sorted-mapped}
 use Rattle.mol_references.specs.References.{Target}
@@ -162,39 +162,56 @@ same-mapped {X} {Y} make xs ys y all stands =
     let found = from_map make xs y stands in
     subst (Contains (map make ys)) found.2 (stands-mapped make ys found.0 (all found.0 found.1))
 
-module _ (program tidied : Program) (is-tidied : tidied ≡ tidy program) (names : List Found) (rows ordered : List Row)
-    (are : (name : Found) → Contains names name ↔ IsMisread tidied name) (found : map fault_of rows ≡ map fault_in names)
+module _ (program : Program) (names : List Found) (rows ordered : List Row)
+    (are : (name : Found) → Contains names name ↔ IsMisread program name) (found : map fault_of rows ≡ map fault_in names)
     (same : (row : Row) → Contains ordered row ↔ Contains rows row) where
-  is-fault : (fault : Fault) → Contains (map fault_of ordered) fault → IsFault program fault × ((fault_key fault).kind ≡ 5)
-  is-fault fault stands =
-      let row = from_map fault_in names fault (subst (λ (faults : List Fault). Contains faults fault) found
+  is-misread : (fault : Fault) → Contains (map fault_of ordered) fault → IsMisreadAs program fault
+  is-misread fault stands =
+      let name = from_map fault_in names fault (subst (λ (faults : List Fault). Contains faults fault) found
       (same-mapped fault_of ordered rows fault (λ row. (same row).0) stands)) in
-      let name = row.0 in
-      let here = (are name).0 row.1 in
+      record { found = name.0; misread = (are name.0).0 name.1; is = name.2 }
+
+  is-listed : (fault : Fault) → IsMisreadAs program fault → Contains (map fault_of ordered) fault
+  is-listed fault is =
+      same-mapped fault_of rows ordered fault (λ row. (same row).1)
+      (subst (λ (faults : List Fault). Contains faults fault) (sym found)
+      (subst (Contains (map fault_in names)) is.is (stands-mapped fault_in names is.found ((are is.found).1 is.misread))))
+
+  pub faults-misread : IsStrictlySortedBy row_cmp ordered → AreMisread program (map fault_of ordered)
+  faults-misread sorted = record {
+    ascending = sorted-mapped row_cmp fault_cmp fault_of ordered-alike ordered sorted;
+    each = λ fault. (is-misread fault, is-listed fault);
+  }
+
+-- Those of a program once it is tidied are its faults of this kind.
+module _ (program tidied : Program) (is-tidied : tidied ≡ tidy program) (faults : List Fault) (are : AreMisread tidied faults) where
+  is-fault : (fault : Fault) → IsMisreadAs tidied fault → IsFault program fault × ((fault_key fault).kind ≡ 5)
+  is-fault fault is =
+      let name = is.found in
+      let here = is.misread in
       let reads : Misread program name.at name.name.number here.target = record {
         class = here.class;
         misread = subst (λ (p : Program). MisreadIn p here.class name.at name.name.number here.target) is-tidied here.misread;
       } in
       subst (λ (f : Fault). IsFault program f × ((fault_key f).kind ≡ 5))
-      (ap (misread name.at name.name.number) here.is_target ∙ row.2)
+      (ap (misread name.at name.name.number) here.is_target ∙ is.is)
       (by_reading reads, kind-kept (fault_target here.target) (record (cell_key 5 name.at) { number = name.name.number }))
 
-  stands-fault : (fault : Fault) → IsFault program fault → (fault_key fault).kind ≡ 5 → Contains (map fault_of ordered) fault
+  stands-fault : (fault : Fault) → IsFault program fault → (fault_key fault).kind ≡ 5 → Contains faults fault
   stands-fault fault (by_reading {at = at} {number = number} {target = target} reads) kind =
       let here = subst (λ (p : Program). MisreadIn p reads.class at number target) (sym is-tidied) reads.misread in
-      let name = name-read tidied reads.class at number target here in
-      let is : IsMisread tidied name = record {
-        class = reads.class;
-        target = target;
-        misread = here;
-        is_target = sym (ap fault_target here.names);
-        is_named = sym (ap program_target here.names);
-        is_instead = refl;
-      } in
-      same-mapped fault_of rows ordered (misread at number (fault_target target)) (λ row. (same row).1)
-      (subst (λ (faults : List Fault). Contains faults (misread at number (fault_target target))) (sym found)
-      (subst (λ (t : Target). Contains (map fault_in names) (misread at number (fault_target t))) here.names
-      (stands-mapped fault_in names name ((are name).1 is))))
+      (are.each fault).1 (record {
+        found = name-read tidied reads.class at number target here;
+        misread = record {
+          class = reads.class;
+          target = target;
+          misread = here;
+          is_target = sym (ap fault_target here.names);
+          is_named = sym (ap program_target here.names);
+          is_instead = refl;
+        };
+        is = ap (λ (t : Target). misread at number (fault_target t)) here.names;
+      })
   stands-fault fault (by_address h) kind = absurd (omega (arith, kind))
   stands-fault fault (by_override h) kind = absurd (omega (arith, kind))
   stands-fault fault (by_place h) kind = absurd (omega (arith, kind))
@@ -203,8 +220,8 @@ module _ (program tidied : Program) (is-tidied : tidied ≡ tidy program) (names
   stands-fault fault (by_local h) kind = absurd (omega (arith, kind))
   stands-fault fault (by_package h) kind = absurd (omega (arith, kind))
 
-  pub are-of-kind : IsStrictlySortedBy row_cmp ordered → AreOfKind program 5 (map fault_of ordered)
-  are-of-kind sorted = record {
-    ascending = sorted-mapped row_cmp fault_cmp fault_of ordered-alike ordered sorted;
-    each = λ fault. (is-fault fault, λ is. stands-fault fault is.0 is.1);
+  pub are-of-kind : AreOfKind program 5 faults
+  are-of-kind = record {
+    ascending = are.ascending;
+    each = λ fault. (λ stands. is-fault fault ((are.each fault).0 stands), λ is. stands-fault fault is.0 is.1);
   }

@@ -1,6 +1,7 @@
 -- What is misread in the files of a program, each time that it is.
-use Rattle.std.specs.Prelude.{◌≡◌, ◌==◌, ◌&&◌, ℕ, Bool, false, List, [], map, if◌then◌else◌}
+use Rattle.std.specs.Prelude.{◌≡◌, ◌==◌, ◌&&◌, ◌↔◌, ℕ, Bool, false, List, [], map, if◌then◌else◌, Contains}
 use Rattle.std.specs.List.{flat_map}
+use Rattle.std.specs.List.Sorted.{IsStrictlySortedBy}
 use Rattle.std.specs.Option.{option_and_then}
 use Rattle.std.specs.Ordering.{eq_by_cmp}
 use Rattle.std.specs.Str.{bytes_eq}
@@ -14,7 +15,7 @@ use Rattle.mol_misread_faults.specs.declared.row.Row.{Row}
 use Rattle.mol_misread_faults.specs.declared.row.Named.{Named}
 use Rattle.mol_misread_faults.specs.declared.row.Named.TheVariants as named
 use Rattle.mol_references.specs.References.{Target}
-use Rattle.mol_spelling.specs.FaultList.{Fault, FaultTarget, entity, default_of, fault_target, local_of, outside_of, misread}
+use Rattle.mol_spelling.specs.FaultList.{Fault, FaultTarget, entity, default_of, fault_cmp, fault_target, local_of, outside_of, misread}
 use Rattle.mol_spelling.specs.NameFaults.{unit_reader, MisreadIn}
 use Rattle.mol_spelling.specs.ReadInstead.{instead}
 use Rattle.mol_spelling.specs.SimpleNames.{imports_in, is_simple_in}
@@ -74,6 +75,17 @@ pub record IsMisread (program : Program) (found : Found) : Type 0 where
   pub is_target : fault_target target ≡ found.name.target
   pub is_named : program_target target ≡ found.name.named
   pub is_instead : option_and_then program_target (instead (unit_reader program class found.at) misread.reference) ≡ found.name.instead
+
+-- It is a fault of a name that is misread in a file of the program.
+pub record IsMisreadAs (program : Program) (fault : Fault) : Type 0 where
+  pub found : Found
+  pub misread : IsMisread program found
+  pub is : fault_in found ≡ fault
+
+-- These are the faults of all names that are misread in the files of a program as it stands, each once, in order.
+pub record AreMisread (program : Program) (faults : List Fault) : Type 0 where
+  pub ascending : IsStrictlySortedBy fault_cmp faults
+  pub each : (fault : Fault) → Contains faults fault ↔ IsMisreadAs program fault
 
 -- ---- one after the other
 

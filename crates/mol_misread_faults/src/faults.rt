@@ -1,10 +1,7 @@
 //! The faults of names that are misread.
 ghost use Rattle.std.specs.Prelude.{◌≡◌, IfOk, map};
 ghost use Rattle.mol_fault.specs.Kept.{kept_fault};
-ghost use Rattle.mol_fault.specs.OfKind.{AreAllOfKind};
-ghost use Rattle.mol_misread_faults.specs.Found.{fault_in, fault_of, kept_name};
-ghost use Rattle.mol_table.specs.Program.{Program};
-ghost use Rattle.mol_table.specs.Tidy.{tidy};
+ghost use Rattle.mol_misread_faults.specs.Found.{AreMisread, fault_in, fault_of, kept_name};
 
 use crate::names::{MisreadName, misread_names};
 use crate::row::{Row, fault_of, in_row};
@@ -14,13 +11,13 @@ use mol_ordered::in_order;
 use mol_table::Table;
 use std::alloc::Global;
 
-/// The faults of a program that names in its files read as something else than what they are the names of, or as nothing, in order
-/// (JLS 6.5). The table is that of the program once it is tidied, as it is printed. A name in the result or the parameters of a method
-/// prints once for each declaration that lives, and is listed once where it is misread in any of these files. A name of what does not
-/// live is none of them: that it is gone is a fault of its own. The time is near-linear in the size of what is printed, but for what
-/// names cost. `Err` is want of memory.
+/// The names in the files of a program that read as something else than what they are the names of, or as nothing, as faults in order
+/// (JLS 6.5). The table is printed as it stands: the faults of a program are those of its table once it is tidied. A name in the result or
+/// the parameters of a method prints once for each declaration that lives, and is listed once where it is misread in any of these files. A
+/// name of what does not live is none of them: that it is gone is a fault of its own. The time is near-linear in the size of what is
+/// printed, but for what names cost. `Err` is want of memory.
 pub fn misread(alloc: Global, tidied: &Table) -> Result<List<Fault>, OutOfMemory>
-    ensures { IfOk result (λ faults. (program : Program) → tidied.now ≡ tidy program → AreAllOfKind program 5 faults) }
+    ensures { IfOk result (λ faults. AreMisread tidied.now (map kept_fault faults)) }
 {
     let names = misread_names(alloc, tidied)?;
     let rows = rows_of(alloc, names)?;

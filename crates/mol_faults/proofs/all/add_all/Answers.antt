@@ -4,6 +4,7 @@ use Rattle.std.proofs.lemmas.Result.{on_ok_weaker}
 use Rattle.mol_fault.proofs.ByKind.{faults_by_kind}
 use Rattle.mol_fault.specs.Kept.{kept_fault}
 use Rattle.mol_fault.specs.declared.fault.Fault.{Fault}
+use Rattle.mol_misread_faults.proofs.Found.{are-of-kind}
 use Rattle.mol_spelling.specs.FaultList.{AreFaults}
 use Rattle.mol_faults.proofs.Joined.{added-joined}
 use Rattle.mol_faults.proofs.all.add_all.Goals as goal
@@ -25,7 +26,7 @@ returns c =
             (
               c.in_ok-missing.ensures,
               (
-                c.in_ok-misread.ensures program c.requires.tidied,
+                are-of-kind program c.args.tidied.now c.requires.tidied (map kept_fault c.in_ok-misread.field-0) c.in_ok-misread.ensures,
                 (
                   c.in_ok-local_clash.ensures,
                   (c.in_ok-package_is_class.ensures, refl),
