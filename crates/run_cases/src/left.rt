@@ -1,40 +1,39 @@
 //! What a run leaves.
 use crate::escapes::push_text;
-use crate::given::Failing;
-use mol_base::{File, List, OutOfMemory, Text};
-use mol_outside::{MemFiles, MemSink};
-use mol_top::run;
+use crate::running::run_shown;
+use mol_base::{File, List, OutOfMemory};
+use mol_outside::MemFiles;
 use std::alloc::Global;
 
-/// The room for what is printed, in bytes.
-const PRINTED: usize = 10_000;
+/// The calls that fail in a run, by their numbers from 1, and the room for what is written.
+#[derive(Clone, Copy)]
+pub struct Failing {
+    pub call: u64,
+    pub put: u64,
+    pub room: usize,
+}
+
+impl Failing {
+    /// No call fails.
+    pub const NONE: Failing = Failing {
+        call: 0,
+        put: 0,
+        room: 100_000,
+    };
+}
 
 /// What a run of these words over these files leaves.
 pub fn run_over(
     alloc: Global,
     files: &List<File>,
     failing: Failing,
-    words: &List<Text>,
+    words: &str,
 ) -> Result<String, OutOfMemory> {
     let calls = List::from_slice(alloc, &[failing.call])?;
     let mut store = MemFiles::new(alloc, files, &calls, failing.room)?;
-    let mut shown = run_shown(alloc, &mut store, failing.put, words)?;
+    let mut shown = run_shown(alloc, words, &mut store, failing.put)?;
     push_changes(alloc, &mut shown, files, &store)?;
     Ok(shown)
-}
-
-/// The exit status of a run, how many files are there then, and what is printed.
-fn run_shown(
-    alloc: Global,
-    store: &mut MemFiles,
-    put: u64,
-    words: &List<Text>,
-) -> Result<String, OutOfMemory> {
-    let puts = List::from_slice(alloc, &[put])?;
-    let mut sink = MemSink::new(alloc, &puts, PRINTED)?;
-    let code = run(alloc, words, store, &mut sink).code();
-    let printed = str::from_utf8(sink.bytes()).unwrap_or("no text\n");
-    Ok(format!(in alloc; "status {code}, files {}\n{printed}", store.count())?)
 }
 
 /// Adds a line for each file of a store that is none of these: its path and its bytes.

@@ -1,5 +1,6 @@
-//! What a run is given: its words, and the files that are there.
-use mol_base::{File, List, OutOfMemory, Text};
+//! Inputs at the limits of their numbers.
+use crate::given::file;
+use mol_base::{File, List, OutOfMemory};
 use std::alloc::Global;
 
 /// The first lines of logs over the classes `k.Cart` and `k.Desk`. `sha256sum` made the digest from their files.
@@ -32,10 +33,10 @@ impl Inputs {
             log.push_str(line.as_str())?;
         }
         let mut files = List::new(alloc);
-        files.add(file(alloc, "B/k/Cart.java", "package k;\n\nclass Cart {\n}\n")?)?;
-        files.add(file(alloc, "B/k/Desk.java", "package k;\n\nclass Desk {\n}\n")?)?;
-        files.add(file(alloc, "L1", log.as_str())?)?;
-        files.add(file(alloc, "L2", BOB)?)?;
+        files.add(file(alloc, "B/k/Cart.java", b"package k;\n\nclass Cart {\n}\n")?)?;
+        files.add(file(alloc, "B/k/Desk.java", b"package k;\n\nclass Desk {\n}\n")?)?;
+        files.add(file(alloc, "L1", log.as_bytes())?)?;
+        files.add(file(alloc, "L2", BOB.as_bytes())?)?;
         Ok(Inputs {
             words: MERGE,
             files,
@@ -133,7 +134,7 @@ impl Inputs {
         let path = format!(in alloc; "B/k/{name}.java")?;
         let text = format!(in alloc; "package k;class {name}{{}}")?;
         let mut files = List::new(alloc);
-        files.add(file(alloc, path.as_str(), text.as_str())?)?;
+        files.add(file(alloc, path.as_str(), text.as_bytes())?)?;
         Ok(Inputs::of_program(files))
     }
 
@@ -156,15 +157,8 @@ impl Inputs {
         let mut bytes = List::from_slice(alloc, b"package k;\nclass C {}\n// ")?;
         bytes.add((byte % 256) as u8)?;
         let mut files = List::new(alloc);
-        files.add(File {
-            path: Text::from_str(alloc, "B/k/C.java")?,
-            bytes,
-        })?;
-        Ok(Inputs {
-            words: FMT,
-            files,
-            writes: 0,
-        })
+        files.add(file(alloc, "B/k/C.java", bytes.items())?)?;
+        Ok(Inputs::of_program(files))
     }
 }
 
@@ -204,13 +198,5 @@ fn with_statements(alloc: Global, number: u32, count: u32) -> Result<String, Out
 /// The source of the class of this number.
 fn source(alloc: Global, number: u32, text: &str) -> Result<File, OutOfMemory> {
     let path = format!(in alloc; "B/k/C{number}.java")?;
-    file(alloc, path.as_str(), text)
-}
-
-/// The file of this path and text.
-pub fn file(alloc: Global, path: &str, text: &str) -> Result<File, OutOfMemory> {
-    Ok(File {
-        path: Text::from_str(alloc, path)?,
-        bytes: List::from_slice(alloc, text.as_bytes())?,
-    })
+    file(alloc, path.as_str(), text.as_bytes())
 }
