@@ -34,8 +34,7 @@ def overriding(number):
 
 
 def named_in_chain(number):
-    """Classes that each extend the one before, and in the last one as many lines that name the first. That no field above hides the name is
-    looked for in each class on the way, so the time is the square."""
+    """Classes that each extend the one before, and in the last one as many lines that name the first, which no field of them all hides."""
     lines = "    new C0();\n" * number
     sources = {"chain/C0.java": b"package chain;\nclass C0 {\n}\n"}
     for k in range(1, number):

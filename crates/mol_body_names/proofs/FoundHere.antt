@@ -1,5 +1,5 @@
 -- What names read as, by the answers of look-ups.
-use Rattle.std.proofs.Common.{◌≡◌, Bool, ℕ, Option, None, Some, refl, sym, ap}
+use Rattle.std.proofs.Common.{◌≡◌, Bool, ℕ, Option, None, Some, is_some, refl, sym, ap}
 use Rattle.jav_scope.specs.Answers.{answered}
 use Rattle.jav_view.specs.DottedNames.{Names}
 use Rattle.jav_view.specs.LookUps.{method_from}
@@ -7,21 +7,22 @@ use Rattle.jav_view.specs.Variables.{Variable as Read, local_variable, parameter
 use Rattle.jav_view.specs.Views.{ViewDeclaration, Found, found, outside, not_found}
 use Rattle.mol_base.specs.declared.ident.Id.{Id}
 use Rattle.mol_body_names.specs.FilePlaces.{writer_of}
-use Rattle.mol_body_names.specs.FoundAs.{is_field_found, is_method_found, is_variable_found}
+use Rattle.mol_body_names.specs.FoundAs.{is_field_found, is_method_found}
 use Rattle.mol_spell.specs.Locals.{no_locals}
 use Rattle.mol_spell.specs.ProgramViews.{method_at, program_view}
 use Rattle.mol_spell.specs.Readers.{Reader}
 use Rattle.mol_spelling.specs.SpelledExpressions.{is_declaration_of, is_field, reads_method}
 use Rattle.mol_spelling.specs.Writers.{Importable, is_variable}
 use Rattle.mol_table.specs.Program.{Program, name_at, same_id}
-use Rattle.mol_variables.specs.Keys.{variable_key}
+use Rattle.mol_variables.specs.Keys.{found_in, variable_key}
 
-pub variable-found : (read : Found (Read Id Id)) → is_variable_found (answered variable_key read) ≡ is_variable read
+pub variable-found : (read : Found (Read Id Id)) → is_some (found_in (answered variable_key read)) ≡ is_variable read
 variable-found (found x) = refl
 variable-found outside = refl
 variable-found not_found = refl
 
-pub field-found : (field : Id) (read : Found (Read Id Id)) → is_field_found field (answered variable_key read) ≡ is_field field read
+pub field-found : (field : Id) (read : Found (Read Id Id))
+    → is_field_found field (found_in (answered variable_key read)) ≡ is_field field read
 field-found field (found (local_variable place)) = refl
 field-found field (found (parameter_variable place)) = refl
 field-found field (found (field_variable read)) = refl

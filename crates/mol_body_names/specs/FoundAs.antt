@@ -1,5 +1,5 @@
 -- What names are found as, by the answers of look-ups.
-use Rattle.std.specs.Prelude.{Bool, true, false, [], Option, None, Some}
+use Rattle.std.specs.Prelude.{Bool, false, [], Option, None, Some}
 use Rattle.jav_scope.specs.declared.found.Found.{Found}
 use Rattle.jav_scope.specs.declared.found.Found.TheVariants as answer
 use Rattle.jav_view.specs.DottedNames.{Name}
@@ -14,22 +14,15 @@ abbrev pub name_or_empty : Option Name → Name
 name_or_empty (Some name) = name
 name_or_empty None = []
 
--- a variable
-abbrev pub is_variable_found : Found Variable → Bool
-is_variable_found (answer.Found read) = true
-is_variable_found answer.Outside = false
-is_variable_found answer.NotFound = false
-
 -- a variable that is this field
 abbrev pub is_read : Id → Variable → Bool
 is_read field (variable.Local place) = false
 is_read field (variable.Param place) = false
 is_read field (variable.Field read) = same_id field read
 
-abbrev pub is_field_found : Id → Found Variable → Bool
-is_field_found field (answer.Found read) = is_read field read
-is_field_found field answer.Outside = false
-is_field_found field answer.NotFound = false
+abbrev pub is_field_found : Id → Option Variable → Bool
+is_field_found field (Some read) = is_read field read
+is_field_found field None = false
 
 -- a declaration of this method
 abbrev pub is_method_found : Program → Id → Found Id → Bool

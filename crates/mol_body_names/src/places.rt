@@ -3,7 +3,7 @@ use crate::body_names::BodyNames;
 use crate::file_names::FileNames;
 use crate::methods::{method_found, method_is};
 use crate::params::present_param;
-use crate::variables::{is_field, is_found};
+use crate::variables::is_field;
 use mol_base::Id;
 use mol_body_locals::BodyLocals;
 use mol_body_places::Places;
@@ -43,12 +43,12 @@ impl<F: FileNames> Places for BodyNames<'_, F> {
     }
 
     fn is_variable(&self, locals: &BodyLocals<'_>, name: &str) -> bool {
-        is_found(&self.variable(locals, name))
+        self.variable(locals, name).is_some()
     }
 
     fn reads_field(&self, locals: &BodyLocals<'_>, field: &Id) -> bool {
         let name = name_of(self.members.table(), field);
-        is_field(field, &self.variable(locals, name))
+        is_field(field, self.variable(locals, name))
     }
 
     fn reads_method(&self, method: &Id, arity: u32) -> bool {

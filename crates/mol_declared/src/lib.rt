@@ -4,6 +4,7 @@
 mod constructors;
 mod declaring;
 mod entries;
+mod field_names;
 mod listed;
 mod living;
 mod member_index;

@@ -12,7 +12,7 @@ use std::marker::Model;
 #[derive(Drop)]
 pub struct MemberIndex<'a> {
     pub(crate) classes: ClassIndex<'a>,
-    pub(crate) members: Members,
+    pub(crate) members: Members<'a>,
 }
 
 impl<'a> Model for MemberIndex<'a> {

@@ -8,14 +8,13 @@ ghost use Rattle.mol_spell.specs.ProgramViews.{program_view};
 use crate::first_types::first_type;
 use crate::reading::Leftmost;
 use jav_imports::ImportIndex;
-use jav_scope::Found;
 use mol_base::Text;
 use mol_typenames::ClassFile;
 use mol_variables::VariablePlace;
 
 /// What the first of these names reads as at a place in the source file of its class, with these imports: a variable, a type or the
-/// beginning of the full name of a class, else it is outside (JLS 6.5.2). It takes no memory. The time is that of the look-up of a
-/// variable and, for each of the names, logarithmic in the number of classes.
+/// beginning of the full name of a class, else it is outside (JLS 6.5.2). It takes no memory. The time is that of `VariablePlace::found`
+/// and, for each of the names, logarithmic in the number of classes.
 pub fn leftmost<'b>(
     place: &VariablePlace<'_, 'b>,
     imports: &'b ImportIndex<'b>,
@@ -30,9 +29,8 @@ pub fn leftmost<'b>(
         class: place.class,
         imports,
     };
-    match place.variable(names[0].as_str()) {
-        Found::Found(variable) => Leftmost::Variable(variable),
-        Found::Outside => Leftmost::Type(first_type(&file, names)),
-        Found::NotFound => Leftmost::Type(first_type(&file, names)),
+    match place.found(names[0].as_str()) {
+        Some(variable) => Leftmost::Variable(variable),
+        None => Leftmost::Type(first_type(&file, names)),
     }
 }

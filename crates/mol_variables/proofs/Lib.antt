@@ -1,1 +1,2 @@
+pub mod NoField
 pub mod VariablesFound

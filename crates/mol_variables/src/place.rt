@@ -1,11 +1,11 @@
 //! Where the names of variables are read.
 ghost use Rattle.std.specs.Prelude.{◌≡◌};
 ghost use Rattle.jav_scope.specs.Answers.{answered};
-ghost use Rattle.jav_view.specs.LookUps.{variable};
+ghost use Rattle.jav_view.specs.LookUps.{first_place, last_place, variable};
 ghost use Rattle.jav_view.specs.Types.{Header};
 ghost use Rattle.mol_base.specs.declared.ident.Id.{Id};
 ghost use Rattle.mol_spell.specs.ProgramViews.{program_view};
-ghost use Rattle.mol_variables.specs.Keys.{place_in, variable_key};
+ghost use Rattle.mol_variables.specs.Keys.{found_in, in_scope, place_in, variable_key};
 
 use crate::variable::Variable;
 use jav_scope::Found;
@@ -31,16 +31,50 @@ impl VariablePlace<'_, '_> {
         ensures { (header : Header Id) → result
             ≡ answered variable_key (variable (program_view self.now.members.now) (place_in header self.now) name.now) }
     {
-        if let Some(place) = self.locals.place_of(name) {
-            return Found::Found(Variable::Local(place));
-        }
-        if let Some(place) = self.params.place_of(name) {
-            return Found::Found(Variable::Param(place));
+        if let Some(variable) = self.in_scope(name) {
+            return Found::Found(variable);
         }
         match field_of(self.members, &self.class, name) {
             Found::Found(field) => Found::Found(Variable::Field(field)),
             Found::Outside => Found::Outside,
             Found::NotFound => Found::NotFound,
         }
+    }
+
+    /// The variable that `variable` finds, if it finds one. It takes no memory. Where no field that lives has this name, in whatever class,
+    /// the time is that of look-ups of a name, however many classes stand above this one; else it is that of `variable`.
+    pub fn found(&self, name: &str) -> Option<Variable>
+        ensures { (header : Header Id) → result ≡ found_in
+            (answered variable_key (variable (program_view self.now.members.now) (place_in header self.now) name.now)) }
+    {
+        if self.members.is_field_name(name) {
+            found_in(self.variable(name))
+        } else {
+            self.in_scope(name)
+        }
+    }
+
+    /// The nearest local of a name, else the parameter.
+    fn in_scope(&self, name: &str) -> Option<Variable>
+        ensures { result ≡ in_scope (last_place name.now self.now.locals.now) (first_place name.now self.now.params.now) }
+    {
+        if let Some(place) = self.locals.place_of(name) {
+            return Some(Variable::Local(place));
+        }
+        match self.params.place_of(name) {
+            Some(place) => Some(Variable::Param(place)),
+            None => None,
+        }
+    }
+}
+
+/// The variable that an answer has found, if it has found one.
+fn found_in(answer: Found<Variable>) -> Option<Variable>
+    ensures { result ≡ found_in answer }
+{
+    match answer {
+        Found::Found(variable) => Some(variable),
+        Found::Outside => None,
+        Found::NotFound => None,
     }
 }

@@ -5,7 +5,7 @@ use Rattle.mol_body_locals.specs.Kept.{locals_of}
 use Rattle.mol_body_names.proofs.PlacesRead.{place-is, view-is}
 use Rattle.mol_body_names.proofs.body_names.BodyNames.variable.Goals as goal
 use Rattle.mol_spell.specs.ProgramReaders.{class_header}
-use Rattle.mol_variables.specs.Keys.{variable_key}
+use Rattle.mol_variables.specs.Keys.{found_in, variable_key}
 
 pub returns : goal.returns
 returns g c =
@@ -13,5 +13,5 @@ returns g c =
     let program = place.members.now in
     let imports = g.F.FileNames.imports place.file.now in
     let reads = place-is program imports place.class place.method (locals_of c.args.locals.now) _ _ c.names.ensures place.are_params in
-    c.variable.ensures (class_header program place.class imports)
-    ∙ (λ i. answered variable_key (variable (view-is program imports place.class place.method i) (reads i) c.args.name.now))
+    c.found.ensures (class_header program place.class imports)
+    ∙ (λ i. found_in (answered variable_key (variable (view-is program imports place.class place.method i) (reads i) c.args.name.now)))
