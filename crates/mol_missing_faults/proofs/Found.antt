@@ -6,8 +6,9 @@ use Rattle.std.specs.List.Sorted.{IsStrictlySortedBy}
 use Rattle.jav_view.proofs.Lists.{stands_first, stands_where, stands_nowhere, stands-mapped}
 use Rattle.mol_base.specs.declared.ident.Id.{Id}
 use Rattle.mol_fault.specs.OfKind.{AreOfKind}
+use Rattle.mol_missing_faults.proofs.ReferringSlots.{is-looked-up}
 use Rattle.mol_missing_faults.proofs.SameRows.{gone_cmp, ordered-alike}
-use Rattle.mol_missing_faults.specs.Gone.{fault_of, gone_by, gone_in, gone_at, gone_in_slots, gone_of, gone_in_all}
+use Rattle.mol_missing_faults.specs.Gone.{fault_of, referring_slots, gone_by, gone_in, gone_at, gone_in_slots, gone_of, gone_in_all}
 use Rattle.mol_missing_faults.specs.declared.gone.Gone.{Gone}
 use Rattle.mol_ordered.proofs.Mapped.{sorted-mapped}
 use Rattle.mol_spell.proofs.Stands.{in_each, from_each, from_map}
@@ -17,6 +18,7 @@ use Rattle.mol_table.specs.Identities.{AreKnown}
 use Rattle.mol_table.specs.Life.{entity_in, is_living_entity, lives}
 use Rattle.mol_table.specs.Mentions.{Mention}
 use Rattle.mol_table.specs.Program.{Program, value_at, cell}
+use Rattle.mol_table.specs.Rules.{IsProgram}
 use Rattle.mol_table.specs.Tidy.{tidied, tidy, references}
 use Rattle.mol_values.specs.declared.cell.Cell.{Cell}
 use Rattle.mol_values.specs.declared.cell.Slot.{Slot}
@@ -76,15 +78,19 @@ known-entity None is = absurd (true≢false (sym is))
 known-entity (Some known) is = refl
 
 module _ (program : Program) (tidied-at : (at : Cell) → get (tidy program).cells at ≡ option_map (tidied program) (get program.cells at))
-    (slots : List Slot) (all-slots : (slot : Slot) → Contains slots slot) (ids : List Id) (known : AreKnown program ids) where
+    (rules : IsProgram program) (ids : List Id) (known : AreKnown program ids) where
   abbrev collected : List Gone
-  collected = gone_in_all program (tidy program) slots ids
+  collected = gone_in_all program (tidy program) ids
+
+  -- the slots that are looked up where an entity lives
+  abbrev slots_if : Bool → Id → List Slot
+  slots_if living id = referring_slots (if living then get program.known id else None)
 
   from-entity : (id : Id) (row : Gone) (living : Bool) → is_living_entity program id ≡ living
-      → Contains (if living then gone_in_slots program (tidy program) id slots else []) row → IsOfKind program (fault_of row)
+      → Contains (gone_in_slots program (tidy program) id (slots_if living id)) row → IsOfKind program (fault_of row)
   from-entity id row false is stands = absurd (stands_nowhere row stands)
   from-entity id row true is stands =
-      let found = from_each (λ (slot : Slot). gone_at program (tidy program) (cell id slot)) slots row stands in
+      let found = from_each (λ (slot : Slot). gone_at program (tidy program) (cell id slot)) (slots_if true id) row stands in
       is-missing program (cell id found.0) (value_at program id found.0) row refl is
       (subst (λ (value : Option Value). Contains (gone_in program (cell id found.0) value) row) (tidied-at (cell id found.0)) found.2)
 
@@ -96,10 +102,10 @@ module _ (program : Program) (tidied-at : (at : Cell) → get (tidy program).cel
   is-collected : (at : Cell) (target : Id) → Missing program at target → Contains collected (record { at = at; target = target })
   is-collected at target absence =
       let row : Gone = record { at = at; target = target } in
-      in_each (gone_of program (tidy program) slots) ids at.id row (is-known at.id absence.owner_lives)
-      (subst (λ (living : Bool). Contains (if living then gone_in_slots program (tidy program) at.id slots else []) row)
-      (sym absence.owner_lives)
-      (in_each (λ (slot : Slot). gone_at program (tidy program) (cell at.id slot)) slots at.slot row (all-slots at.slot)
+      in_each (gone_of program (tidy program)) ids at.id row (is-known at.id absence.owner_lives)
+      (subst (λ (living : Bool). Contains (gone_in_slots program (tidy program) at.id (slots_if living at.id)) row) (sym absence.owner_lives)
+      (in_each (λ (slot : Slot). gone_at program (tidy program) (cell at.id slot)) (slots_if true at.id) at.slot row
+      (is-looked-up program rules at target absence)
       (subst (λ (value : Option Value). Contains (gone_in program at value) row) (sym (tidied-at at))
       (missing-collected program at target absence))))
 
@@ -107,7 +113,7 @@ module _ (program : Program) (tidied-at : (at : Cell) → get (tidy program).cel
     is-fault : (fault : Fault) → Contains (map fault_of rows) fault → IsOfKind program fault
     is-fault fault stands =
         let row = from_map fault_of rows fault stands in
-        let found = from_each (gone_of program (tidy program) slots) ids row.0 ((same row.0).0 row.1) in
+        let found = from_each (gone_of program (tidy program)) ids row.0 ((same row.0).0 row.1) in
         subst (IsOfKind program) row.2 (from-entity found.0 row.0 (is_living_entity program found.0) refl found.2)
 
     stands-fault : (fault : Fault) → IsFault program fault → (fault_key fault).kind ≡ 4 → Contains (map fault_of rows) fault

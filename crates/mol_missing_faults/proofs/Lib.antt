@@ -1,3 +1,4 @@
 pub mod Slots
+pub mod ReferringSlots
 pub mod SameRows
 pub mod Found

@@ -1,5 +1,5 @@
--- All slots, and their order as the code has it.
-use Rattle.std.proofs.Common.{◌≡◌, ◌<◌, Bool, true, false, List, length, Contains, refl, sym, ap, ◌∙◌, arith, true≢false, nat_cmp}
+-- The order of slots as the code has it.
+use Rattle.std.proofs.Common.{◌≡◌, ◌<◌, Bool, true, false, List, length, refl, sym, ap, ◌∙◌, arith, true≢false, nat_cmp}
 use Rattle.std.proofs.lemmas.List.Folds.{list_all_at}
 use Rattle.std.specs.List.{list_all}
 use Rattle.std.specs.declared.cmp.Ordering.{Ordering}
@@ -10,7 +10,6 @@ use Rattle.mol_values.specs.contracts.cell.SlotOrd as slots
 use Rattle.mol_values.specs.declared.cell.Slot.{Slot}
 use Rattle.mol_values.specs.declared.cell.Slot.TheVariants.{Live, Package, Owner, Method, Name, Super, Result, Params, Kind, Fixed, Words, Notes, Body, Value}
 
--- all slots
 slot-below : (slot : Slot) → slot_number slot < length every_slot
 slot-below Live = omega arith
 slot-below Package = omega arith
@@ -27,8 +26,13 @@ slot-below Notes = omega arith
 slot-below Body = omega arith
 slot-below Value = omega arith
 
-pub every-slot : (slot : Slot) → Contains every_slot slot
-every-slot slot = (slot_number slot, slot-below slot, slot_at slot slot)
+-- a test that each slot on the list of all passes, each slot passes
+pub passes : (test : Slot → Bool) → list_all test every_slot ≡ true → (slot : Slot) → test slot ≡ true
+passes test all slot = by (test slot) refl where
+  by : (b : Bool) → test slot ≡ b → test slot ≡ true
+  by true is = is
+  by false is = absurd (true≢false (sym all
+      ∙ list_all_at test every_slot (slot_number slot) slot (slot-below slot) (ap test (slot_at slot slot) ∙ is)))
 
 -- ---- their order, tried at each two of them
 
@@ -52,13 +56,6 @@ alike first second = same (slot_cmp first second) (nat_cmp (slot_number first) (
 
 all-alike : list_all (λ first. list_all (alike first) every_slot) every_slot ≡ true
 all-alike = refl
-
-passes : (test : Slot → Bool) → list_all test every_slot ≡ true → (slot : Slot) → test slot ≡ true
-passes test all slot = by (test slot) refl where
-  by : (b : Bool) → test slot ≡ b → test slot ≡ true
-  by true is = is
-  by false is = absurd (true≢false (sym all
-      ∙ list_all_at test every_slot (slot_number slot) slot (slot-below slot) (ap test (slot_at slot slot) ∙ is)))
 
 pub slots-alike : (first second : Slot) → slot_cmp first second ≡ nat_cmp (slot_number first) (slot_number second)
 slots-alike first second =

@@ -1,49 +1,45 @@
 //! All that cells refer to and is gone.
 ghost use Rattle.std.specs.Prelude.{◌≡◌, ◌++◌, IfOk, OnOk, map};
 ghost use Rattle.mol_mentions.specs.Kept.{kept_mention};
-ghost use Rattle.mol_missing_faults.specs.Gone.{gone_among, gone_at, gone_by, gone_in_all, gone_in_slots, gone_of};
+ghost use Rattle.mol_missing_faults.specs.Gone.{gone_among, gone_at, gone_by, gone_in_all, gone_in_slots, referring_slots};
 ghost use Rattle.mol_table.specs.Mentions.{mentions};
 
 use crate::gone::Gone;
-use crate::present::{is_living_entity, is_there};
+use crate::present::{is_there, living_entity};
 use mol_base::{Id, OutOfMemory};
 use mol_mentions::{Mention, mentions_of};
 use mol_table::Table;
-use mol_values::{Cell, Slot, Value};
+use mol_values::{Cell, Known, Slot, Value};
 use std::alloc::Global;
 
-/// What the cells in these slots refer to and is gone, of the entities among these identities that live.
+/// What the cells of the entities among these identities that live refer to and is gone. A cell is looked up only where its value may
+/// refer to something.
 pub(crate) fn gone_in_all(
     alloc: Global,
     table: &Table,
     tidied: &Table,
     ids: &[Id],
-    slots: &[Slot],
 ) -> Result<Vec<Gone>, OutOfMemory>
-    ensures { IfOk result (λ gone. gone.items ≡ gone_in_all table.now tidied.now slots.now ids.now) }
+    ensures { IfOk result (λ gone. gone.items ≡ gone_in_all table.now tidied.now ids.now) }
 {
     let mut gone = Vec::new(alloc);
     for id in ids {
-        add_entity(alloc, &mut gone, table, tidied, id, slots)?;
+        let slots = referring_slots(living_entity(table, id));
+        add_slots(alloc, &mut gone, table, tidied, id, slots)?;
     }
     Ok(gone)
 }
 
-/// Adds what the cells of an entity refer to and is gone, where it lives.
-fn add_entity(
-    alloc: Global,
-    gone: &mut Vec<Gone>,
-    table: &Table,
-    tidied: &Table,
-    id: &Id,
-    slots: &[Slot],
-) -> Result<(), OutOfMemory>
-    ensures { OnOk result (gone.new.items ≡ gone.old.items ++ gone_of table.now tidied.now slots.now id.now) }
+/// The slots whose values may refer to something, of what is known so: none of a parameter, which has no cells. It takes no memory.
+fn referring_slots(known: Option<Known>) -> &'static [Slot]
+    ensures { result.now ≡ referring_slots known }
 {
-    if is_living_entity(table, id) {
-        add_slots(alloc, gone, table, tidied, id, slots)
-    } else {
-        Ok(())
+    match known {
+        Some(Known::Class) => &[Slot::Super],
+        Some(Known::Method(_)) => &[Slot::Result, Slot::Params],
+        Some(Known::Decl(_)) => &[Slot::Owner, Slot::Method, Slot::Body],
+        Some(Known::Field) => &[Slot::Owner, Slot::Value],
+        Some(Known::Param(_)) | None => &[],
     }
 }
 

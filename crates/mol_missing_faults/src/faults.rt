@@ -11,7 +11,6 @@ use mol_base::{List, OutOfMemory};
 use mol_fault::Fault;
 use mol_ordered::in_order;
 use mol_table::Table;
-use mol_values::Slot;
 use std::alloc::Global;
 
 /// The faults of a program that cells of what lives refer to what is gone, in order. The second table is the first one, tidied: a call
@@ -21,7 +20,7 @@ pub fn missing(alloc: Global, table: &Table, tidied: &Table) -> Result<List<Faul
     requires { tidied.now ≡ tidy table.now }
     ensures { IfOk result (λ faults. AreAllOfKind table.now 4 faults) }
 {
-    let found = gone_in_all(alloc, table, tidied, table.ids(), &Slot::ALL)?;
+    let found = gone_in_all(alloc, table, tidied, table.ids())?;
     let gone = in_order(found);
     faults_of(alloc, gone.as_slice())
 }

@@ -3,8 +3,8 @@ ghost use Rattle.std.specs.FinMap as map;
 ghost use Rattle.std.specs.List.{list_any};
 ghost use Rattle.std.specs.Prelude.{◌≡◌};
 ghost use Rattle.mol_mentions.specs.Kept.{kept_role};
+ghost use Rattle.mol_missing_faults.specs.Gone.{living_entity};
 ghost use Rattle.mol_table.specs.Faults.{is_present, is_there, method_of};
-ghost use Rattle.mol_table.specs.Life.{is_living_entity};
 ghost use Rattle.mol_values.specs.Order.{id_eq};
 
 use mol_base::Id;
@@ -13,14 +13,14 @@ use mol_mentions::{Mention, Role};
 use mol_table::Table;
 use mol_values::{Known, Param};
 
-/// Whether this is an entity, and lives. It takes no memory.
-pub(crate) fn is_living_entity(table: &Table, id: &Id) -> bool
-    ensures { result ≡ is_living_entity table.now id.now }
+/// What an entity that lives is known as; `None` of what is no entity, and of one that does not live. It takes no memory.
+pub(crate) fn living_entity(table: &Table, id: &Id) -> Option<Known>
+    ensures { result ≡ living_entity table.now id.now }
 {
     match table.known(*id) {
-        None => false,
-        Some(Known::Param(_)) => false,
-        Some(_) => table.lives(*id),
+        Some(Known::Param(_)) => None,
+        Some(known) if table.lives(*id) => Some(known),
+        _ => None,
     }
 }
 

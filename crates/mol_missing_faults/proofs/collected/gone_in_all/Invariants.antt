@@ -4,4 +4,4 @@ use Rattle.mol_missing_faults.specs.Gone.{gone_in_all}
 
 abbrev pub invariant-loop-id : goal.invariant-loop-id
 invariant-loop-id l =
-    l.gone.items ++ gone_in_all l.table l.tidied l.slots (drop l.id-index l.ids) ≡ gone_in_all l.table l.tidied l.slots l.ids
+    l.gone.items ++ gone_in_all l.table l.tidied (drop l.id-index l.ids) ≡ gone_in_all l.table l.tidied l.ids

@@ -3,11 +3,9 @@ use Rattle.std.proofs.lemmas.Result.{IfOk-weaker}
 use Rattle.mol_fault.specs.OfKind.{AreOfKind}
 use Rattle.mol_missing_faults.proofs.Found.{are-of-kind}
 use Rattle.mol_missing_faults.proofs.SameRows.{gone-same}
-use Rattle.mol_missing_faults.proofs.Slots.{every-slot}
 use Rattle.mol_missing_faults.proofs.faults.missing.Goals as goal
 use Rattle.mol_missing_faults.specs.Gone.{fault_of, gone_in_all}
 use Rattle.mol_missing_faults.specs.declared.gone.Gone.{Gone}
-use Rattle.mol_table.proofs.CellOrder.{every_slot}
 use Rattle.mol_table.proofs.TidyRules.{tidied-at}
 use Rattle.mol_table.specs.Program.{Program}
 
@@ -20,10 +18,10 @@ returns c =
     let ids = c.ids.result.now in
     let rows = c.in_order-gone.result.items in
     let found = c.in_ok-found.ensures
-    ∙ ap (λ (tidied : Program). gone_in_all program tidied every_slot ids) c.requires in
+    ∙ ap (λ (tidied : Program). gone_in_all program tidied ids) c.requires in
     IfOk-weaker c.faults_of.result _ _
     (λ faults is. subst (AreOfKind program 4) (sym (is ∙ ap (map fault_of) c.as_slice.ensures.value))
-    (are-of-kind program (tidied-at program) every_slot every-slot ids c.ids.ensures.known rows
+    (are-of-kind program (tidied-at program) c.ids.ensures.rules ids c.ids.ensures.known rows
     (λ row. subst (λ (list : List Gone). Contains rows row ↔ Contains list row) found (c.in_order-gone.ensures.same row))
     c.in_order-gone.ensures.ascending))
     c.faults_of.ensures
