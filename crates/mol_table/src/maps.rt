@@ -14,8 +14,10 @@ mod ascending;
 mod bare;
 mod change;
 mod copy;
+mod first_cells;
 mod tidied;
 
+use crate::maps::first_cells::place_in_base;
 use crate::{Cell, Kind, Known, NewEntity, Param, Slot, Value};
 use indexmap::IndexMap;
 use mol_base::{Id, OutOfMemory};
@@ -27,6 +29,9 @@ pub(crate) struct Maps {
     /// Ascending by identity, but while entities are added or a value is set.
     pub known: IndexMap<Id, Known>,
     pub living: IndexMap<Id, usize>,
+    /// Where in `cells` those of a base's identities begin, in the order of their numbers. It may be short or
+    /// out of date.
+    pub first_cells: Vec<usize>,
 }
 
 impl Maps {
@@ -34,13 +39,21 @@ impl Maps {
     pub fn value(&self, cell: &Cell) -> Option<&Value>
         ensures { option_copied result ≡ map.get (program_in self.now).cells cell.now }
     {
-        self.cells.get(cell)
+        match self.value_nearby(cell) {
+            Some(value) => Some(value),
+            None => self.cells.get(cell),
+        }
     }
 
-    /// What an identity is known as.
+    /// What an identity is known as. One of a base is looked for first where its number has it.
     pub fn find(&self, id: &Id) -> Option<Known>
         ensures { result ≡ map.get (program_in self.now).known id.now }
     {
+        if let Some((at, what)) = self.known.get_index(place_in_base(id)) {
+            if at == id {
+                return Some(*what);
+            }
+        }
         self.known.get(id).copied()
     }
 

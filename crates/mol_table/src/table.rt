@@ -55,6 +55,7 @@ impl Table {
                 cells: IndexMap::new(alloc),
                 known: IndexMap::new(alloc),
                 living: IndexMap::new(alloc),
+                first_cells: Vec::new(alloc),
             },
         }
     }

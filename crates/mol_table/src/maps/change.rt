@@ -52,8 +52,10 @@ impl Maps {
         self.living.reserve(entities.len())?;
         let room = self.room_to_sort(names)?;
         let size = self.known.len();
+        let first = self.cells.len();
         self.put_entities(entities);
         self.arrange(size, room);
+        self.note_first_cells(first);
         Ok(())
     }
 }

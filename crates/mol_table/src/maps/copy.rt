@@ -3,6 +3,7 @@ ghost use Rattle.std.specs.Prelude.{◌≡◌, IfOk};
 ghost use Rattle.mol_table.specs.Maps.{cells_of, knowns_of, counts_of, program_in, counts_in, IsOrdered, AreOrdered};
 
 use crate::maps::Maps;
+use crate::maps::first_cells::copy_places;
 use crate::{Cell, Known, Value};
 use indexmap::IndexMap;
 use mol_base::{Id, OutOfMemory};
@@ -19,6 +20,7 @@ impl Maps {
             cells: copy_cells(alloc, &self.cells)?,
             known: copy_known(alloc, &self.known)?,
             living: copy_numbers(alloc, &self.living)?,
+            first_cells: copy_places(alloc, &self.first_cells),
         })
     }
 }

@@ -7,6 +7,7 @@ ghost use Rattle.mol_table.specs.Tidying.{entry_by};
 
 use crate::maps::Maps;
 use crate::maps::copy::{copy_known, copy_numbers};
+use crate::maps::first_cells::copy_places;
 use crate::tidy::tidy_value;
 use crate::{Cell, Value};
 use indexmap::IndexMap;
@@ -26,6 +27,7 @@ impl Maps {
             cells: tidied_cells(alloc, self, &index)?,
             known: copy_known(alloc, &self.known)?,
             living: copy_numbers(alloc, &self.living)?,
+            first_cells: copy_places(alloc, &self.first_cells),
         })
     }
 }

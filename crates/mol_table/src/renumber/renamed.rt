@@ -22,11 +22,14 @@ impl Maps {
     {
         let order = self.printed_order(alloc)?;
         let names = new_names(alloc, &order)?;
-        Ok(Maps {
+        let mut renumbered = Maps {
             cells: renamed_cells(alloc, self, &names)?,
             known: renamed_known(alloc, self, &order, &names)?,
             living: renamed_numbers(alloc, self, &names)?,
-        })
+            first_cells: Vec::new(alloc),
+        };
+        renumbered.note_first_cells(0);
+        Ok(renumbered)
     }
 }
 

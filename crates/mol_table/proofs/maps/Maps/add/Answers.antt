@@ -1,7 +1,7 @@
-use Rattle.std.proofs.Common.{◌≡◌, ◌∙◌, sym, subst, arith}
+use Rattle.std.proofs.Common.{◌≡◌, ◌∙◌, sym, ap, subst, arith}
 use Rattle.std.specs.List.Sorted.{IsSorted}
 use Rattle.mol_base.specs.Order.{id_cmp}
-use Rattle.mol_table.specs.Maps.{program_in, cells_of, knowns_of}
+use Rattle.mol_table.specs.Maps.{program_in, cells_of, knowns_of, Stands}
 use Rattle.mol_table.specs.Rules.{IsProgram}
 use Rattle.mol_table.specs.Writes.{with_entities}
 use Rattle.mol_table.proofs.Changing.{are-apart, arranged-program, stands-arranged}
@@ -26,7 +26,8 @@ arrange-requires-clause-within c =
 
 pub returns-clause-ok : goal.returns-clause-ok
 returns-clause-ok c =
-    arranged-program c.put_entities.new.self c.arrange.new.self c.arrange.ensures.rest c.arrange.ensures.known
+    ap program_in c.note_first_cells.ensures
+    ∙ arranged-program c.put_entities.new.self c.arrange.new.self c.arrange.ensures.rest c.arrange.ensures.known
     ∙ c.put_entities.ensures.program
     ∙ (λ i. with_entities (record { cells = cells_of (c.in_ok-reserve.ensures.entries i); known = knowns_of (c.in_ok-reserve-2.ensures.entries i) }) c.args.entities.items)
 
@@ -35,5 +36,6 @@ returns-clause-stands c =
     let program : program_in c.put_entities.new.self ≡ with_entities (program_in c.args.self.now) c.args.entities.items =
     c.put_entities.ensures.program
     ∙ (λ i. with_entities (record { cells = cells_of (c.in_ok-reserve.ensures.entries i); known = knowns_of (c.in_ok-reserve-2.ensures.entries i) }) c.args.entities.items) in
-    stands-arranged c.put_entities.new.self c.arrange.new.self c.arrange.ensures.rest c.arrange.ensures.known c.arrange.ensures.ordered
-    (subst IsProgram (sym program) c.requires.new.rules) c.put_entities.ensures.counted
+    subst Stands (sym c.note_first_cells.ensures)
+    (stands-arranged c.put_entities.new.self c.arrange.new.self c.arrange.ensures.rest c.arrange.ensures.known c.arrange.ensures.ordered
+    (subst IsProgram (sym program) c.requires.new.rules) c.put_entities.ensures.counted)

@@ -1,11 +1,11 @@
-use Rattle.std.proofs.Common.{◌≡◌, sym, subst, arith}
+use Rattle.std.proofs.Common.{◌≡◌, ◌∙◌, sym, ap, subst, arith}
 use Rattle.std.specs.FinMap as finite
 use Rattle.mol_base.specs.declared.ident.Id.{Id}
 use Rattle.mol_table.specs.Counting.{Counts, Counted, passing}
 use Rattle.mol_table.specs.Life.{lives}
 use Rattle.std.specs.Prelude.{List}
 use Rattle.mol_table.specs.Looked.{HasNames, HasLiving, renumbered_counts}
-use Rattle.mol_table.specs.Maps.{cells_of, knowns_of, program_in, counts_in}
+use Rattle.mol_table.specs.Maps.{cells_of, knowns_of, program_in, counts_in, Stands}
 use Rattle.mol_table.specs.Program.{Program}
 use Rattle.mol_table.specs.Renumber.{number, renumber}
 use Rattle.mol_table.specs.Rules.{IsProgram}
@@ -44,7 +44,8 @@ renamed_numbers-requires c =
     (subst (λ (ids : List Id). AreNames ids c.in_ok-names.names.entries) c.deref.ensures.value c.in_ok-names.ensures)
 
 pub returns-clause-program : goal.returns-clause-program
-returns-clause-program c = λ i. record { cells = c.in_ok-renamed_cells.ensures i; known = c.in_ok-renamed_known.ensures.known i }
+returns-clause-program c =
+    ap program_in c.note_first_cells.ensures ∙ (λ i. record { cells = c.in_ok-renamed_cells.ensures i; known = c.in_ok-renamed_known.ensures.known i })
 
 pub returns-clause-stands : goal.returns-clause-stands
 returns-clause-stands c =
@@ -56,10 +57,10 @@ returns-clause-stands c =
     let may = c.requires.may in
     let new : Program = record { cells = cells_of c.in_ok-renamed_cells.field-0.entries; known = knowns_of c.in_ok-renamed_known.field-0.entries } in
     let is : new ≡ renumber program = λ i. record { cells = c.in_ok-renamed_cells.ensures i; known = c.in_ok-renamed_known.ensures.known i } in
-    record {
+    subst Stands (sym c.note_first_cells.ensures) (record {
       rules = subst IsProgram (sym is) (renumber-IsProgram program names.apart stands.rules may.tidied may.present);
       counted = subst (λ (counts : Counts). Counted new counts) (sym c.in_ok-renamed_numbers.ensures)
           (subst (λ (p : Program). Counted p (renumbered_counts program (counts_in c.args.self.now))) (sym is)
           (renumber-Counted program names.apart stands.rules may.tidied may.present (counts_in c.args.self.now) stands.counted));
       ordered = c.in_ok-renamed_known.ensures.ordered;
-    }
+    })

@@ -5,5 +5,5 @@ use Rattle.mol_values.proofs.Lookups.{get_is}
 use Rattle.mol_values.proofs.Ties.{cell_eq, cell_ties}
 use Rattle.mol_table.proofs.maps.Maps.value.Goals as goal
 
-pub returns : goal.returns
-returns c = c.get.ensures.value ∙ get_is cell_cmp cell_eq cell_ties cell_cmp-total c.args.cell.now c.args.self.now.cells.entries
+pub returns-in-None : goal.returns-in-None
+returns-in-None c = c.get.ensures.value ∙ get_is cell_cmp cell_eq cell_ties cell_cmp-total c.args.cell.now c.args.self.now.cells.entries
