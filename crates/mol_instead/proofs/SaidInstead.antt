@@ -16,7 +16,7 @@ use Rattle.mol_spell.specs.Locals.{Locals}
 use Rattle.mol_spell.specs.Readers.{Reader}
 use Rattle.mol_spell.specs.ReadTrees.{ClassPath, whole_path, front_path, no_path, path_by, Meant}
 use Rattle.mol_spelling.specs.Answers.{answer, method_of, method_through_answer, on_value_answer}
-use Rattle.mol_spelling.specs.ReadInstead.{asked_instead, method_instead, path_instead, read_before, word_target}
+use Rattle.mol_spelling.specs.ReadInstead.{asked_instead, class_begun, method_instead, path_instead, read_before, word_target}
 use Rattle.mol_spelling.specs.SpelledExpressions.{dot_tree, dots_tree, name_tree, names_tree}
 use Rattle.mol_spelling.specs.Writers.{path_asked, static_field_asked, static_method_asked}
 use Rattle.mol_table.specs.Program.{Program}
@@ -56,7 +56,8 @@ module _ (place : NamePlace) (locals : Locals Id) where
         → Some (class_target class) ≡ asked_instead reader locals (path_asked path follow)
     path-class class is = ap (path_instead reader locals path follow) is
 
-    pub path-front : front_path ≡ spelled → None ≡ asked_instead reader locals (path_asked path follow)
+    pub path-front : front_path ≡ spelled
+        → class_begun reader locals (left place locals path.first (path.rest ++ follow)) ≡ asked_instead reader locals (path_asked path follow)
     path-front is = ap (path_instead reader locals path follow) is
 
     pub path-value : no_path ≡ spelled → read_as path.first path.rest follow ≡ asked_instead reader locals (path_asked path follow)

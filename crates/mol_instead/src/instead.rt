@@ -7,7 +7,7 @@ ghost use Rattle.mol_base.specs.declared.ident.Id.{Id as Identity};
 ghost use Rattle.mol_instead.specs.Kept.{leftmost_of, locals_at, program_at, reader_at, reads_of, IsPlace};
 ghost use Rattle.mol_instead.specs.Reads.{method_read, target_read, Reads as Value};
 ghost use Rattle.mol_leftmost.specs.Readings.{IsRead};
-ghost use Rattle.mol_spelling.specs.ReadInstead.{asked_instead};
+ghost use Rattle.mol_spelling.specs.ReadInstead.{asked_instead, class_begun};
 ghost use Rattle.mol_spelling.specs.Writers.{path_asked, static_field_asked, static_method_asked};
 
 use crate::class_path::{ClassPath, spelled};
@@ -18,8 +18,8 @@ use mol_asked::Answer;
 use mol_base::{OutOfMemory, Text};
 
 impl<'b> InsteadPlace<'_, '_, 'b> {
-    /// What the first so many of these names read as, which stand before a dot and the others: the class that they spell, or what the last
-    /// of them is the name of. The time is that of the look-up of a field for each of them. `Err` comes where a local has no number of 32
+    /// What the first so many of these names read as, which stand before a dot and the others: the class that they spell or whose full name
+    /// they begin, or what the last of them is the name of. The time is that of the look-up of a field for each of them. `Err` comes where a local has no number of 32
     /// bits.
     pub fn path(&self, names: &'b [Text], count: usize) -> Result<Answer<'b>, OutOfMemory>
         requires some { 1 ≤ count }
@@ -32,7 +32,7 @@ impl<'b> InsteadPlace<'_, '_, 'b> {
         let first = self.first(names);
         match spelled(&first, count) {
             ClassPath::Whole(class) => Ok(Answer::Class(class)),
-            ClassPath::Front => Ok(Answer::Nothing),
+            ClassPath::Front => Ok(self.class_begun(&first)),
             ClassPath::Neither => self.last_read(&first, &names[0], &names[1..count]),
         }
     }
@@ -89,6 +89,17 @@ impl<'b> InsteadPlace<'_, '_, 'b> {
         match self.names_read(first, name, rest) {
             Ok(read) => Ok(named(&read)),
             Err(OutOfMemory) => Err(OutOfMemory),
+        }
+    }
+
+    /// The class whose full name names begin that read so.
+    fn class_begun(&self, first: &First<'b>) -> Answer<'b>
+        ensures { (read : Read Identity Identity) → IsRead (leftmost_of first.now) read
+            → answer_of result ≡ class_begun (reader_at self.now) (locals_at self.now) read }
+    {
+        match first {
+            First::Class(class, _) => Answer::Class(*class),
+            _ => Answer::Nothing,
         }
     }
 

@@ -1,5 +1,6 @@
--- What a printed name reads as where it does not read as its target: of several names, the member that the whole of them reads as.
-use Rattle.std.specs.Prelude.{ℕ, [], Option, Some, None}
+-- What a printed name reads as where it does not read as its target: of several names, the class or the member that the whole of them
+-- reads as, and the class whose full name they begin (JLS 6.5.2).
+use Rattle.std.specs.Prelude.{ℕ, [], ◌++◌, Option, Some, None}
 use Rattle.std.specs.Option.{option_and_then}
 use Rattle.mol_base.specs.declared.ident.Id.{Id}
 use Rattle.mol_references.specs.References.{Target, field_target, param_target, local_target, outside_target}
@@ -7,9 +8,10 @@ use Rattle.mol_values.specs.declared.iexpr.IExpr.{IExpr, fold-IExpr}
 use Rattle.mol_values.specs.declared.iexpr.IExpr.TheOpen.{IExpr-F, Argument-F}
 use Rattle.jav_tree.specs.declared.expr.Expr.{Expr}
 use Rattle.jav_view.specs.DottedNames.{Name, Names, Dotted}
-use Rattle.jav_view.specs.LookUps.{method_on}
+use Rattle.jav_view.specs.Leftmost.{Leftmost, leftmost_variable, leftmost_class, leftmost_import, leftmost_outside}
+use Rattle.jav_view.specs.LookUps.{leftmost, method_on}
 use Rattle.mol_spell.specs.Locals.{Locals}
-use Rattle.mol_spell.specs.Readers.{Reader}
+use Rattle.mol_spell.specs.Readers.{Reader, place_of}
 use Rattle.mol_spell.specs.ReadTrees.{Meant, ClassPath, whole_path, front_path, no_path, reading, path_of}
 use Rattle.mol_spelling.specs.Answers.{class_of, method_of, on_value_answer, method_through_answer, answer}
 use Rattle.mol_spelling.specs.SpelledExpressions.{dot_tree, names_tree}
@@ -41,10 +43,18 @@ module _ (reader : Reader Id Id) (locals : Locals Id) where
   abbrev pub read_before : Expr → Names → Option Target
   read_before e follow = option_and_then (λ (value : Meant Id). word_target value.tree) (meant_before e follow)
 
-  -- names that spell a class, or a value
+  -- the class whose full name the leftmost of several names begins
+  abbrev pub class_begun : Leftmost Id Id → Option Target
+  class_begun (leftmost_variable variable) = None
+  class_begun (leftmost_class class count) = Some (class_of reader class)
+  class_begun (leftmost_import import) = None
+  class_begun leftmost_outside = None
+
+  -- names that spell a class, or begin the full name of one with those that follow, or a value
   abbrev pub path_instead : Dotted → Names → ClassPath Id → Option Target
   path_instead names follow (whole_path class) = Some (class_of reader class)
-  path_instead names follow front_path = None
+  path_instead names follow front_path =
+      class_begun (leftmost reader.view (place_of reader locals) names.first (names.rest ++ follow))
   path_instead names follow no_path = read_before (names_tree names) follow
 
   -- a method after names

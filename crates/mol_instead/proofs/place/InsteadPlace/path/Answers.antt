@@ -21,8 +21,9 @@ returns-in-Front c = λ path follow is many.
     let place = c.args.self.now.names.now in
     let locals = locals_at c.args.self.now in
     let read = left place locals path.first (path.rest ++ follow) in
-    path-front place locals path follow
-    (c.in-Front.ensures read (c.first-first.ensures path.first (path.rest ++ follow) is) ∙ ap (λ count. path_by count read) many)
+    let first = c.first-first.ensures path.first (path.rest ++ follow) is in
+    c.class_begun.ensures read first
+    ∙ path-front place locals path follow (c.in-Front.ensures read first ∙ ap (λ count. path_by count read) many)
 
 pub returns-in-Neither : goal.returns-in-Neither
 returns-in-Neither c =
