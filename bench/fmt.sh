@@ -13,7 +13,7 @@ program=$(readlink -f "${1:-$here/../crates/molref/out/molref}")
 work=$(mktemp -d)
 trap 'rm -rf "$work"' EXIT
 PYTHONDONTWRITEBYTECODE=1 PYTHONPATH=$here python3 - "$program" "$work" <<'PY'
-import filecmp, os, shutil, subprocess, sys
+import filecmp, os, shutil, subprocess, sys, tempfile
 
 import programs
 from measured import RUNS, growth, summary, timed
@@ -23,10 +23,17 @@ PROGRAM, WORK = sys.argv[1:]
 FILES, MOST, TOGETHER = 4096, 1 << 20, 16 << 20
 
 
+def moved_away(folder):
+    """Makes room for a folder. What stands there is kept under another name: where files were deleted just now, some file systems make new
+    ones slowly."""
+    if os.path.exists(folder):
+        os.rename(folder, tempfile.mkdtemp(dir=WORK) + "/before")
+
+
 def formatted(base):
     """The time and the peak memory of formatting a folder into a new one, and that folder."""
     out = f"{base}.out"
-    return *timed([PROGRAM, "fmt", base, out], before=lambda: shutil.rmtree(out, ignore_errors=True)), out
+    return *timed([PROGRAM, "fmt", base, out], before=lambda: moved_away(out)), out
 
 
 def measure(what, sources):
@@ -54,7 +61,7 @@ def compare(what, sources):
         copy = f"{base}.{peer}"
 
         def fresh():
-            shutil.rmtree(copy, ignore_errors=True)
+            moved_away(copy)
             shutil.copytree(base, copy)
 
         with open(f"{WORK}/names", "w") as file:
