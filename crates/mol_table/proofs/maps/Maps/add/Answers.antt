@@ -36,6 +36,7 @@ returns-clause-stands c =
     let program : program_in c.put_entities.new.self ≡ with_entities (program_in c.args.self.now) c.args.entities.items =
     c.put_entities.ensures.program
     ∙ (λ i. with_entities (record { cells = cells_of (c.in_ok-reserve.ensures.entries i); known = knowns_of (c.in_ok-reserve-2.ensures.entries i) }) c.args.entities.items) in
-    subst Stands (sym c.note_first_cells.ensures)
-    (stands-arranged c.put_entities.new.self c.arrange.new.self c.arrange.ensures.rest c.arrange.ensures.known c.arrange.ensures.ordered
-    (subst IsProgram (sym program) c.requires.new.rules) c.put_entities.ensures.counted)
+    let stands : Stands c.arrange.new.self =
+    stands-arranged c.put_entities.new.self c.arrange.new.self c.arrange.ensures.rest c.arrange.ensures.known c.arrange.ensures.ordered
+    (subst IsProgram (sym program) c.requires.new.rules) c.put_entities.ensures.counted in
+    subst Stands (sym c.note_first_cells.ensures) (record { rules = stands.rules; counted = stands.counted; ordered = stands.ordered })
