@@ -33,15 +33,27 @@ def overriding(number):
     return sources
 
 
-def named_in_chain(number):
-    """Classes that each extend the one before, and in the last one as many lines that name the first, which no field of them all hides."""
-    lines = "    new C0();\n" * number
-    sources = {"chain/C0.java": b"package chain;\nclass C0 {\n}\n"}
+def ended_by(number, line):
+    """Classes that each extend the one before, and in the last one as many such lines; beside them a class `Util`."""
+    lines = f"    {line}\n" * number
+    sources = {"chain/C0.java": b"package chain;\nclass C0 {\n}\n",
+               "chain/Util.java": b"package chain;\nclass Util {\n  static int f() { return 1; }\n}\n"}
     for k in range(1, number):
         body = f"  void make() {{\n{lines}  }}\n" if k == number - 1 else ""
         sources[f"chain/C{k}.java"] = f"package chain;\nclass C{k} extends C{k - 1} {{\n{body}}}\n".encode()
     return sources
 
 
+def named_in_chain(number):
+    """A chain of classes with lines that name the first, which no field of them all hides."""
+    return ended_by(number, "new C0();")
+
+
+def static_in_chain(number):
+    """A chain of classes with calls of a static method of another class."""
+    return ended_by(number, "Util.f();")
+
+
 SHAPES = (("chain of classes", chain, 4000), ("fields of a class", wide, 10000), ("uses of three names", used, 10000),
-          ("declarations of a method", overriding, 2000), ("names in a chain of classes", named_in_chain, 4000))
+          ("declarations of a method", overriding, 2000), ("names in a chain of classes", named_in_chain, 4000),
+          ("static calls in a chain of classes", static_in_chain, 4000))

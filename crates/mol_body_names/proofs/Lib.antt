@@ -1,2 +1,3 @@
+pub mod FoundAbove
 pub mod FoundHere
 pub mod PlacesRead

@@ -1,6 +1,7 @@
 //! What the names in a cell of a table are where they are written, and whether their simple names read as them there.
 #![tactic(auto)]
 
+mod above;
 mod body_names;
 mod file_names;
 mod methods;

@@ -47,11 +47,17 @@ impl<F: FileNames> Places for BodyNames<'_, F> {
     }
 
     fn reads_field(&self, locals: &BodyLocals<'_>, field: &Id) -> bool {
+        if !self.has_field_above(field) {
+            return false;
+        }
         let name = name_of(self.members.table(), field);
         is_field(field, self.variable(locals, name))
     }
 
     fn reads_method(&self, method: &Id, arity: u32) -> bool {
+        if !self.has_method_above(method) {
+            return false;
+        }
         let found = method_found(self.alloc, self.members, &self.class, method, arity);
         method_is(self.members.table(), method, &found)
     }

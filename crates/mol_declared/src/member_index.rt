@@ -1,9 +1,11 @@
 //! A table as the rules on names look at it.
 ghost use Rattle.std.specs.Prelude.{◌≡◌, IfOk};
+ghost use Rattle.mol_table.specs.Ancestors.{is_on_way};
 
 use crate::members::Members;
-use mol_base::OutOfMemory;
+use mol_base::{Id, OutOfMemory};
 use mol_classes::ClassIndex;
+use mol_hierarchy::Hierarchy;
 use mol_table::Table;
 use std::alloc::Global;
 use std::marker::Model;
@@ -13,9 +15,11 @@ use std::marker::Model;
 pub struct MemberIndex<'a> {
     pub(crate) classes: ClassIndex<'a>,
     pub(crate) members: Members<'a>,
+    pub(crate) hierarchy: Hierarchy<'a>,
 }
 
 impl<'a> Model for MemberIndex<'a> {
+    ghost use Rattle.std.specs.Prelude.{◌≡◌};
     ghost use Rattle.mol_base.specs.contracts.ident.Id as id;
     ghost use Rattle.mol_declared.specs.Indexed.{AreIndexed};
     ghost use Rattle.mol_table.specs.Maps.{program_code};
@@ -30,7 +34,7 @@ impl<'a> Model for MemberIndex<'a> {
 
     ghost view = { λ index. index.classes };
 
-    ghost invariant = { λ index. AreIndexed index.members index.classes };
+    ghost invariant = { λ index. AreIndexed index.members index.classes × (index.hierarchy ≡ index.classes) };
 }
 
 impl<'a> MemberIndex<'a> {
@@ -41,7 +45,12 @@ impl<'a> MemberIndex<'a> {
     {
         let classes = ClassIndex::new(alloc, table)?;
         let members = Members::of(alloc, table)?;
-        Ok(MemberIndex { classes, members })
+        let hierarchy = Hierarchy::new(alloc, table)?;
+        Ok(MemberIndex {
+            classes,
+            members,
+            hierarchy,
+        })
     }
 
     /// The table. It takes no memory.
@@ -49,6 +58,14 @@ impl<'a> MemberIndex<'a> {
         ensures { result.now ≡ self.now }
     {
         self.classes.table()
+    }
+
+    /// Whether the second class is the first one, or an ancestor of it: one of the superclasses that are met going up while each lives
+    /// (JLS 8.1.4). It takes no memory, and the time is logarithmic in the number of classes.
+    pub fn is_on_way(&self, class: &Id, above: &Id) -> bool
+        ensures { result ≡ is_on_way self.now class.now above.now }
+    {
+        self.hierarchy.is_on_way(class, above)
     }
 
     /// The classes of the table. It takes no memory.

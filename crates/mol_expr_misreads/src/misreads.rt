@@ -20,8 +20,8 @@ pub struct Misread {
     pub target: Target,
     /// The same, if it is of the program and no local.
     pub named: Option<Met>,
-    /// What it reads as instead, if that is of the program and no local: of several names the class that they spell, or else what the last
-    /// of them is the name of.
+    /// What it reads as instead, if that is of the program and no local: of several names the class that they spell or whose full
+    /// name they begin, or else what the last of them is the name of.
     pub instead: Option<Met>,
 }
 

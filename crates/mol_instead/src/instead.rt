@@ -19,8 +19,8 @@ use mol_base::{OutOfMemory, Text};
 
 impl<'b> InsteadPlace<'_, '_, 'b> {
     /// What the first so many of these names read as, which stand before a dot and the others: the class that they spell or whose full name
-    /// they begin, or what the last of them is the name of. The time is that of the look-up of a field for each of them. `Err` comes where a local has no number of 32
-    /// bits.
+    /// they begin, or what the last of them is the name of. The time is that of the look-up of a field for each of them. `Err` comes where
+    /// a local has no number of 32 bits.
     pub fn path(&self, names: &'b [Text], count: usize) -> Result<Answer<'b>, OutOfMemory>
         requires some { 1 ≤ count }
         requires within { count ≤ length names.now }

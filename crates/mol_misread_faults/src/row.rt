@@ -24,7 +24,7 @@ pub(crate) enum Named {
     Default(Id),
     /// A local, by its number.
     Local(u32),
-    /// What is outside, by its full name.
+    /// What is outside, by its text.
     Outside(Text),
 }
 

@@ -7,7 +7,7 @@ use Rattle.mol_declared.proofs.member_index.MemberIndex.declared_method.Goals as
 
 pub returns : goal.returns
 returns c =
-    let indexed = subst (AreIndexed c.self.inside.members) c.self.view_is c.self.invariant in
+    let indexed = subst (AreIndexed c.self.inside.members) c.self.view_is c.self.invariant.0 in
     c.first.ensures
     ∙ ap (λ name. option_map (λ (entry : Entry). entry.id)
     (find (is_sought c.args.class.now c.args.arity name) c.self.inside.members.methods)) c.as_bytes.ensures.value

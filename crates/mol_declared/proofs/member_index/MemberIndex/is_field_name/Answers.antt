@@ -4,5 +4,5 @@ use Rattle.mol_declared.proofs.member_index.MemberIndex.is_field_name.Goals as g
 
 pub returns : goal.returns
 returns c =
-    let indexed = subst (AreIndexed c.self.inside.members) c.self.view_is c.self.invariant in
+    let indexed = subst (AreIndexed c.self.inside.members) c.self.view_is c.self.invariant.0 in
     c.contains.ensures ∙ indexed.field_names c.args.name.now
