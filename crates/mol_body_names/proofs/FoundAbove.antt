@@ -9,37 +9,42 @@ use Rattle.jav_view.proofs.Lists.{stands_first, stands_later, stands_where, stan
 use Rattle.jav_view.proofs.NamesAnswered.{names_answered}
 use Rattle.jav_view.proofs.Ways.{has_class-decides}
 use Rattle.jav_view.specs.Ancestors.{Extends, HasClass, IsAncestor, Leads}
-use Rattle.jav_view.specs.DottedNames.{Name}
+use Rattle.jav_view.specs.DottedNames.{Name, Names}
 use Rattle.jav_view.specs.LookUps.{method_from, variable}
 use Rattle.jav_view.specs.Members.{ReadsMethod}
 use Rattle.jav_view.specs.Standing.{IsVariableAt, IsFieldOf}
 use Rattle.jav_view.specs.Variables.{Place, Variable, local_variable, parameter_variable, field_variable, ReadsVariable}
-use Rattle.jav_view.specs.Views.{class_type, Found, found, outside, not_found, IsOrdered, View, ViewDeclaration, ViewField}
+use Rattle.jav_view.specs.Views.{class_type, Found, found, outside, not_found, IsOrdered, View, ViewDeclaration, ViewField, ViewType}
 use Rattle.mol_base.specs.Order.{id_cmp-total, id_cmp-IsAntisymmetric}
 use Rattle.mol_base.specs.declared.ident.Id.{Id}
 use Rattle.mol_body_names.specs.Above.{has_field_above, has_method_above}
+use Rattle.mol_body_names.specs.FilePlaces.{writer_of}
 use Rattle.mol_classes.proofs.LivingClasses.{has-is}
 use Rattle.mol_hierarchy.proofs.Following.{further, itself, one-step}
 use Rattle.mol_hierarchy.proofs.OnWays.{on_way-decides}
 use Rattle.mol_hierarchy.specs.Reaching.{Reaches}
 use Rattle.mol_spell.proofs.ProgramsViewed.{programs_viewed}
 use Rattle.mol_spell.proofs.Stands.{from_some}
-use Rattle.mol_spell.specs.ProgramViews.{declaration_of, field_of, living_declaration, living_field, method_at, method_in, program_view, seen, superclass_in}
-use Rattle.mol_spell.specs.Readers.{Reader}
+use Rattle.mol_spell.specs.ProgramViews.{declaration_of, field_of, living_declaration, living_field, method_at, method_in, program_view, seen, seen_step, superclass_in}
+use Rattle.mol_spell.specs.Locals.{Locals, no_locals}
+use Rattle.mol_spell.specs.Readers.{Reader, place_of}
 use Rattle.mol_spell.specs.StaticTypes.{class_of_only_declaration}
-use Rattle.mol_spelling.specs.SpelledExpressions.{is_declaration_of, is_field}
+use Rattle.mol_spelling.specs.SpelledExpressions.{is_declaration_of, is_field, reads_field, reads_method}
+use Rattle.mol_spelling.specs.Writers.{Importable}
 use Rattle.mol_table.proofs.Counts.{each_found}
 use Rattle.mol_table.proofs.Living.{id_tied, same_id-own}
 use Rattle.mol_table.specs.Ancestors.{is_on_way, living_parent}
 use Rattle.mol_table.specs.Faults.{is_above}
 use Rattle.mol_table.specs.Heights.{upward}
 use Rattle.mol_table.specs.Life.{is_decl_of}
-use Rattle.mol_table.specs.Program.{Program, class_of_type, living_at, owner_at, parent_at, parent_in, same_id, value_at}
-use Rattle.mol_table.specs.Renumber.{is_class, is_living_class}
+use Rattle.mol_table.specs.Program.{Program, class_of_type, class_step, living_at, name_at, owner_at, parent_in, same_id, value_at}
+use Rattle.mol_table.specs.Renumber.{is_class}
 use Rattle.mol_table.specs.Rules.{IsProgram}
 use Rattle.mol_values.specs.declared.cell.Slot.TheVariants as slots
 use Rattle.mol_values.specs.declared.itype.IType.{IType}
-use Rattle.mol_values.specs.declared.itype.IType.TheVariants as types
+use Rattle.mol_values.specs.declared.itype.IType.TheFolds.{fold-roll-IType, ind-IType, map-IType}
+use Rattle.mol_values.specs.declared.itype.IType.TheOpen.{IType-F}
+use Rattle.mol_values.specs.declared.itype.IType.TheViews.{roll-IType}
 use Rattle.mol_values.specs.declared.kind.MethodKind.TheVariants.{Constructor, Instance, Static}
 use Rattle.mol_values.specs.declared.known.Known.{Known}
 use Rattle.mol_values.specs.declared.known.Known.TheVariants as knowns
@@ -48,18 +53,29 @@ use Rattle.mol_values.specs.declared.value.Value.TheVariants as values
 
 -- ---- superclasses
 
-class-seen : (type : IType) (above : Id) → seen type ≡ class_type above → class_of_type type ≡ Some above
-class-seen types.Boolean above is = absurd cc
-class-seen types.Byte above is = absurd cc
-class-seen types.Short above is = absurd cc
-class-seen types.Char above is = absurd cc
-class-seen types.Int above is = absurd cc
-class-seen types.Long above is = absurd cc
-class-seen types.Void above is = absurd cc
-class-seen (types.Class id) above is = let same : id ≡ above = cc in ap (λ id. Some id) same
-class-seen (types.Imported import rest) above is = absurd cc
-class-seen (types.Written text) above is = absurd cc
-class-seen (types.Array item) above is = absurd cc
+abbrev IsSeen : IType → Type 0
+IsSeen type = (above : Id) → seen type ≡ class_type above → class_of_type type ≡ Some above
+
+from-seen : (x : IType-F IType) → ((above : Id) → seen_step (map-IType _ _ seen x) ≡ class_type above
+    → class_step (map-IType _ _ class_of_type x) ≡ Some above) → IsSeen (roll-IType x)
+from-seen x step above is =
+    fold-roll-IType (Option Id) class_step x ∙ step above (sym (fold-roll-IType (ViewType Id) seen_step x) ∙ is)
+
+layer-seen : (y : IType-F ((type : IType) × IsSeen type)) → IsSeen (roll-IType (map-IType _ _ (λ p. p.0) y))
+layer-seen (IType-F.Array item) = from-seen (IType-F.Array item.0) (λ above is. absurd cc)
+layer-seen IType-F.Boolean = from-seen IType-F.Boolean (λ above is. absurd cc)
+layer-seen IType-F.Byte = from-seen IType-F.Byte (λ above is. absurd cc)
+layer-seen IType-F.Short = from-seen IType-F.Short (λ above is. absurd cc)
+layer-seen IType-F.Char = from-seen IType-F.Char (λ above is. absurd cc)
+layer-seen IType-F.Int = from-seen IType-F.Int (λ above is. absurd cc)
+layer-seen IType-F.Long = from-seen IType-F.Long (λ above is. absurd cc)
+layer-seen IType-F.Void = from-seen IType-F.Void (λ above is. absurd cc)
+layer-seen (IType-F.Class class) = from-seen (IType-F.Class class) (λ above is. let same : class ≡ above = cc in ap (λ id. Some id) same)
+layer-seen (IType-F.Imported import rest) = from-seen (IType-F.Imported import rest) (λ above is. absurd cc)
+layer-seen (IType-F.Written text) = from-seen (IType-F.Written text) (λ above is. absurd cc)
+
+class-seen : (type : IType) → IsSeen type
+class-seen = ind-IType IsSeen (λ x y is. subst (λ z. IsSeen (roll-IType z)) is (layer-seen y))
 
 parent-seen : (value : Option Value) (above : Id) → superclass_in value ≡ Some (class_type above) → parent_in value ≡ Some above
 parent-seen None above is = absurd cc
@@ -165,7 +181,7 @@ module _ (program : Program) (rules : IsProgram program) where
         by (IsVariableAt.is_field of) = field-above place.class name field of
 
   -- a field that stands elsewhere is no variable here
-  pub no-field : (place : Place Id) (name : Name) (field : Id) → has_field_above program place.class field ≡ false
+  no-field : (place : Place Id) (name : Name) (field : Id) → has_field_above program place.class field ≡ false
       → false ≡ is_field field (variable view place name)
   no-field place name field elsewhere = by (variable view place name) refl where
     by_field : (read : ViewField Id Id) → variable view place name ≡ found (field_variable read) → (b : Bool)
@@ -235,7 +251,7 @@ module _ (program : Program) (rules : IsProgram program) where
       ∙ owner-on-way class declared.owner stands.owned
 
   -- a static method that is declared elsewhere is not found here
-  pub no-method : (reader : Reader Id Id) (class : Id) (name : Name) (arity : ℕ) (method : Id)
+  no-method : (reader : Reader Id Id) (class : Id) (name : Name) (arity : ℕ) (method : Id)
       → ((d : ViewDeclaration Id Id) → reader.ids.method_id d ≡ method_at program d.key)
       → has_method_above program class method (get program.known method) ≡ false
       → false ≡ is_declaration_of reader method (method_from view class name arity)
@@ -263,3 +279,21 @@ module _ (program : Program) (rules : IsProgram program) where
     by_known (Some (knowns.Decl own)) is none = absurd cc
     by_known (Some knowns.Field) is none = absurd cc
     by_known (Some (knowns.Param own)) is none = absurd cc
+
+  -- ---- where names of a file are written
+
+  module _ (imports : Names) (is_simple : Importable → Bool) (class : Id) where
+    pub field-elsewhere : (declared : Option Id) (locals : Locals Id) (field : Id) → has_field_above program class field ≡ false
+        → false ≡ reads_field (writer_of program imports is_simple class declared) locals field
+    field-elsewhere None locals field none =
+        no-field (place_of (writer_of program imports is_simple class None).reader locals) (name_at program field) field none
+    field-elsewhere (Some own) locals field none =
+        no-field (place_of (writer_of program imports is_simple class (Some own)).reader locals) (name_at program field) field none
+
+    pub method-elsewhere : (declared : Option Id) (method : Id) (arity : ℕ)
+        → has_method_above program class method (get program.known method) ≡ false
+        → false ≡ reads_method (writer_of program imports is_simple class declared) no_locals method arity
+    method-elsewhere None method arity none =
+        no-method (writer_of program imports is_simple class None).reader class (name_at program method) arity method (λ d. refl) none
+    method-elsewhere (Some own) method arity none =
+        no-method (writer_of program imports is_simple class (Some own)).reader class (name_at program method) arity method (λ d. refl) none

@@ -1,6 +1,5 @@
 -- Where a member stands that a name can be found as from a class up.
 use Rattle.std.specs.Prelude.{Bool, true, Option, Some}
-use Rattle.std.specs.FinMap.{get}
 use Rattle.mol_base.specs.declared.ident.Id.{Id}
 use Rattle.mol_spell.specs.StaticTypes.{class_of_only_declaration}
 use Rattle.mol_table.specs.Faults.{is_above}

@@ -1,6 +1,7 @@
-use Rattle.std.proofs.Common.{◌∙◌, ap}
+use Rattle.std.proofs.Common.{◌∙◌, sym, ap}
 use Rattle.jav_view.specs.LookUps.{variable}
 use Rattle.mol_body_locals.specs.Kept.{locals_of}
+use Rattle.mol_body_names.proofs.FoundAbove.{field-elsewhere}
 use Rattle.mol_body_names.proofs.FoundHere.{field-found}
 use Rattle.mol_body_names.proofs.places.BodyNamesPlaces.reads_field.Goals as goal
 use Rattle.mol_body_names.specs.FilePlaces.{reader_in}
@@ -8,6 +9,13 @@ use Rattle.mol_body_names.specs.FoundAs.{is_field_found}
 use Rattle.mol_spell.specs.Readers.{place_of}
 use Rattle.mol_spelling.specs.SpelledExpressions.{is_field}
 use Rattle.mol_table.specs.Program.{Program, name_at}
+
+pub returns-then-not-has_field_above : goal.returns-then-not-has_field_above
+returns-then-not-has_field_above g c =
+    let place = c.args.self.now in
+    field-elsewhere place.members.now c.has_field_above.ensures.rules (g.F.FileNames.imports place.file.now)
+    (g.F.FileNames.simple place.file.now) place.class place.method (locals_of c.args.locals.now) c.args.field.now
+    (sym c.has_field_above.ensures.above ∙ c.if-not-has_field_above.true)
 
 pub returns : goal.returns
 returns g c =

@@ -1,7 +1,15 @@
-use Rattle.std.proofs.Common.{◌∙◌}
+use Rattle.std.proofs.Common.{◌∙◌, sym}
+use Rattle.mol_body_names.proofs.FoundAbove.{method-elsewhere}
 use Rattle.mol_body_names.proofs.FoundHere.{method-read}
 use Rattle.mol_body_names.proofs.places.BodyNamesPlaces.reads_method.Goals as goal
 use Rattle.mol_body_names.specs.FoundAs.{is_method_found}
+
+pub returns-then-not-has_method_above : goal.returns-then-not-has_method_above
+returns-then-not-has_method_above g c =
+    let place = c.args.self.now in
+    method-elsewhere place.members.now c.has_method_above.ensures.rules (g.F.FileNames.imports place.file.now)
+    (g.F.FileNames.simple place.file.now) place.class place.method c.args.method.now c.args.arity
+    (sym c.has_method_above.ensures.above ∙ c.if-not-has_method_above.true)
 
 pub returns : goal.returns
 returns g c =
