@@ -29,8 +29,8 @@ pub(crate) struct Maps {
     /// Ascending by identity, but while entities are added or a value is set.
     pub known: IndexMap<Id, Known>,
     pub living: IndexMap<Id, usize>,
-    /// Where in `cells` those of a base's identities begin, in the order of their numbers. It may be short or
-    /// out of date.
+    /// Where in `cells` those of a base's identities begin, in the order of their numbers. It may be short, and of
+    /// what has no cells there it has no place.
     pub first_cells: Vec<usize>,
 }
 

@@ -14,6 +14,9 @@ impl Maps {
     pub fn value_nearby(&self, cell: &Cell) -> Option<&Value>
         ensures { IfSome result (λ value. map.get (program_in self.now).cells cell.now ≡ Some value.now) }
     {
+        if cell.id.tag != Tag::base() {
+            return None;
+        }
         let first = *self.first_cells.get(place_in_base(&cell.id))?;
         for place in first..first.saturating_add(Slot::ALL.len()) {
             let (at, value) = self.cells.get_index(place)?;
@@ -29,7 +32,7 @@ impl Maps {
     pub fn note_first_cells(&mut self, from: usize)
         ensures { self.new ≡ record self.old { first_cells = self.new.first_cells } }
     {
-        if self.first_cells.resize(self.known.len(), 0).is_err() {
+        if self.first_cells.resize(self.known.len(), usize::MAX).is_err() {
             return;
         }
         for place in (from..self.cells.len()).rev() {
