@@ -2,7 +2,7 @@ use Rattle.std.proofs.Common.{◌≡◌, ◌-◌, suc, length}
 use Rattle.jav_scope.specs.Climbs.{climb}
 use Rattle.mol_spell.specs.ProgramViews.{program_view}
 use Rattle.mol_inherited.specs.Soughts.{found_in_class}
-use Rattle.mol_inherited.proofs.nearest.nearest.Given as goal
+use Rattle.mol_inherited.proofs.climbed.climbed.Given as goal
 
 abbrev pub invariant-loop-step : goal.invariant-loop-step
 invariant-loop-step l =

@@ -7,7 +7,7 @@ use Rattle.mol_base.specs.declared.ident.Id.{Id}
 use Rattle.mol_spell.specs.ProgramViews.{program_view}
 use Rattle.mol_table.specs.Program.{Program}
 use Rattle.mol_inherited.specs.Soughts.{found_in_class}
-use Rattle.mol_inherited.proofs.nearest.nearest.Goals as goal
+use Rattle.mol_inherited.proofs.climbed.climbed.Goals as goal
 
 -- as many steps are left as there are classes, and one more
 pub loop-step-init : goal.loop-step-init
