@@ -33,10 +33,11 @@ def overriding(number):
     return sources
 
 
-def ended_by(number, line):
-    """Classes that each extend the one before, and in the last one as many such lines; beside them a class `Util`."""
+def ended_by(number, line, first=""):
+    """Classes that each extend the one before, with such members in the first, and in the last one as many such lines; beside them a class
+    `Util`."""
     lines = f"    {line}\n" * number
-    sources = {"chain/C0.java": b"package chain;\nclass C0 {\n}\n",
+    sources = {"chain/C0.java": f"package chain;\nclass C0 {{\n{first}}}\n".encode(),
                "chain/Util.java": b"package chain;\nclass Util {\n  static int f() { return 1; }\n}\n"}
     for k in range(1, number):
         body = f"  void make() {{\n{lines}  }}\n" if k == number - 1 else ""
@@ -54,6 +55,18 @@ def static_in_chain(number):
     return ended_by(number, "Util.f();")
 
 
+def outside_in_chain(number):
+    """A chain of classes with calls of a method that none of them declares."""
+    return ended_by(number, "hashCode();")
+
+
+def inherited_in_chain(number):
+    """A chain of classes with calls of a method of the first."""
+    return ended_by(number, "f();", "  int f() { return 1; }\n")
+
+
 SHAPES = (("chain of classes", chain, 4000), ("fields of a class", wide, 10000), ("uses of three names", used, 10000),
           ("declarations of a method", overriding, 2000), ("names in a chain of classes", named_in_chain, 4000),
-          ("static calls in a chain of classes", static_in_chain, 4000))
+          ("static calls in a chain of classes", static_in_chain, 4000),
+          ("calls of `Object` in a chain of classes", outside_in_chain, 4000),
+          ("inherited calls in a chain of classes", inherited_in_chain, 4000))

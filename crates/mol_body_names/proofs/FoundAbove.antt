@@ -1,5 +1,5 @@
 -- What a name is found as stands in the class from which it is looked for, or above it.
-use Rattle.std.proofs.Common.{◌≡◌, ◌⊎◌, inl, inr, ℕ, Bool, true, false, ◌&&◌, cond, List, [], ◌∷◌, Option, Some, None, option_map, Contains, find, refl, sym, ◌∙◌, ap, subst, true≢false}
+use Rattle.std.proofs.Common.{◌≡◌, ◌⊎◌, inl, inr, ℕ, Bool, true, false, cond, List, [], ◌∷◌, Option, Some, None, option_map, Contains, find, refl, sym, ◌∙◌, ap, subst, true≢false}
 use Rattle.std.specs.FinMap.{get, entries}
 use Rattle.std.specs.Option.{option_and_then}
 use Rattle.std.proofs.lemmas.List.Elements.{All-contains, All-from_recursion}
@@ -7,25 +7,24 @@ use Rattle.jav_view.proofs.AncestorsFound.{ancestors_known}
 use Rattle.jav_view.proofs.FoundNames.{names_stand}
 use Rattle.jav_view.proofs.Lists.{stands_first, stands_later, stands_where, stands_nowhere}
 use Rattle.jav_view.proofs.NamesAnswered.{names_answered}
-use Rattle.jav_view.proofs.Ways.{has_class-decides}
-use Rattle.jav_view.specs.Ancestors.{Extends, HasClass, IsAncestor, Leads}
+use Rattle.jav_view.specs.Ancestors.{IsAncestor}
 use Rattle.jav_view.specs.DottedNames.{Name, Names}
 use Rattle.jav_view.specs.LookUps.{method_from, variable}
 use Rattle.jav_view.specs.Members.{ReadsMethod}
 use Rattle.jav_view.specs.Standing.{IsVariableAt, IsFieldOf}
 use Rattle.jav_view.specs.Variables.{Place, Variable, local_variable, parameter_variable, field_variable, ReadsVariable}
-use Rattle.jav_view.specs.Views.{class_type, Found, found, outside, not_found, IsOrdered, View, ViewDeclaration, ViewField, ViewType}
+use Rattle.jav_view.specs.Views.{Found, found, outside, not_found, IsOrdered, View, ViewDeclaration, ViewField}
 use Rattle.mol_base.specs.Order.{id_cmp-total, id_cmp-IsAntisymmetric}
 use Rattle.mol_base.specs.declared.ident.Id.{Id}
 use Rattle.mol_body_names.specs.Above.{has_field_above, has_method_above}
 use Rattle.mol_body_names.specs.FilePlaces.{writer_of}
-use Rattle.mol_classes.proofs.LivingClasses.{has-is}
-use Rattle.mol_hierarchy.proofs.Following.{further, itself, one-step}
+use Rattle.mol_hierarchy.proofs.Following.{itself}
 use Rattle.mol_hierarchy.proofs.OnWays.{on_way-decides}
 use Rattle.mol_hierarchy.specs.Reaching.{Reaches}
+use Rattle.mol_inherited.proofs.Reached.{reached}
 use Rattle.mol_spell.proofs.ProgramsViewed.{programs_viewed}
 use Rattle.mol_spell.proofs.Stands.{from_some}
-use Rattle.mol_spell.specs.ProgramViews.{declaration_of, field_of, living_declaration, living_field, method_at, method_in, program_view, seen, seen_step, superclass_in}
+use Rattle.mol_spell.specs.ProgramViews.{declaration_of, field_of, living_declaration, living_field, method_at, method_in, program_view}
 use Rattle.mol_spell.specs.Locals.{Locals, no_locals}
 use Rattle.mol_spell.specs.Readers.{Reader, place_of}
 use Rattle.mol_spell.specs.StaticTypes.{class_of_only_declaration}
@@ -33,67 +32,14 @@ use Rattle.mol_spelling.specs.SpelledExpressions.{is_declaration_of, is_field, r
 use Rattle.mol_spelling.specs.Writers.{Importable}
 use Rattle.mol_table.proofs.Counts.{each_found}
 use Rattle.mol_table.proofs.Living.{id_tied, same_id-own}
-use Rattle.mol_table.specs.Ancestors.{is_on_way, living_parent}
+use Rattle.mol_table.specs.Ancestors.{is_on_way}
 use Rattle.mol_table.specs.Faults.{is_above}
-use Rattle.mol_table.specs.Heights.{upward}
 use Rattle.mol_table.specs.Life.{is_decl_of}
-use Rattle.mol_table.specs.Program.{Program, class_of_type, class_step, living_at, name_at, owner_at, parent_in, same_id, value_at}
-use Rattle.mol_table.specs.Renumber.{is_class}
+use Rattle.mol_table.specs.Program.{Program, living_at, name_at, owner_at, same_id}
 use Rattle.mol_table.specs.Rules.{IsProgram}
-use Rattle.mol_values.specs.declared.cell.Slot.TheVariants as slots
-use Rattle.mol_values.specs.declared.itype.IType.{IType}
-use Rattle.mol_values.specs.declared.itype.IType.TheFolds.{fold-roll-IType, ind-IType, map-IType}
-use Rattle.mol_values.specs.declared.itype.IType.TheOpen.{IType-F}
-use Rattle.mol_values.specs.declared.itype.IType.TheViews.{roll-IType}
 use Rattle.mol_values.specs.declared.kind.MethodKind.TheVariants.{Constructor, Instance, Static}
 use Rattle.mol_values.specs.declared.known.Known.{Known}
 use Rattle.mol_values.specs.declared.known.Known.TheVariants as knowns
-use Rattle.mol_values.specs.declared.value.Value.{Value}
-use Rattle.mol_values.specs.declared.value.Value.TheVariants as values
-
--- ---- superclasses
-
-abbrev IsSeen : IType → Type 0
-IsSeen type = (above : Id) → seen type ≡ class_type above → class_of_type type ≡ Some above
-
-from-seen : (x : IType-F IType) → ((above : Id) → seen_step (map-IType _ _ seen x) ≡ class_type above
-    → class_step (map-IType _ _ class_of_type x) ≡ Some above) → IsSeen (roll-IType x)
-from-seen x step above is =
-    fold-roll-IType (Option Id) class_step x ∙ step above (sym (fold-roll-IType (ViewType Id) seen_step x) ∙ is)
-
-layer-seen : (y : IType-F ((type : IType) × IsSeen type)) → IsSeen (roll-IType (map-IType _ _ (λ p. p.0) y))
-layer-seen (IType-F.Array item) = from-seen (IType-F.Array item.0) (λ above is. absurd cc)
-layer-seen IType-F.Boolean = from-seen IType-F.Boolean (λ above is. absurd cc)
-layer-seen IType-F.Byte = from-seen IType-F.Byte (λ above is. absurd cc)
-layer-seen IType-F.Short = from-seen IType-F.Short (λ above is. absurd cc)
-layer-seen IType-F.Char = from-seen IType-F.Char (λ above is. absurd cc)
-layer-seen IType-F.Int = from-seen IType-F.Int (λ above is. absurd cc)
-layer-seen IType-F.Long = from-seen IType-F.Long (λ above is. absurd cc)
-layer-seen IType-F.Void = from-seen IType-F.Void (λ above is. absurd cc)
-layer-seen (IType-F.Class class) = from-seen (IType-F.Class class) (λ above is. let same : class ≡ above = cc in ap (λ id. Some id) same)
-layer-seen (IType-F.Imported import rest) = from-seen (IType-F.Imported import rest) (λ above is. absurd cc)
-layer-seen (IType-F.Written text) = from-seen (IType-F.Written text) (λ above is. absurd cc)
-
-class-seen : (type : IType) → IsSeen type
-class-seen = ind-IType IsSeen (λ x y is. subst (λ z. IsSeen (roll-IType z)) is (layer-seen y))
-
-parent-seen : (value : Option Value) (above : Id) → superclass_in value ≡ Some (class_type above) → parent_in value ≡ Some above
-parent-seen None above is = absurd cc
-parent-seen (Some (values.Live live)) above is = absurd cc
-parent-seen (Some (values.Package name)) above is = absurd cc
-parent-seen (Some (values.Owner owner)) above is = absurd cc
-parent-seen (Some (values.Method method)) above is = absurd cc
-parent-seen (Some (values.Name name)) above is = absurd cc
-parent-seen (Some (values.Super None)) above is = absurd cc
-parent-seen (Some (values.Super (Some type))) above is = let same : seen type ≡ class_type above = cc in class-seen type above same
-parent-seen (Some (values.Result type)) above is = absurd cc
-parent-seen (Some (values.Params params)) above is = absurd cc
-parent-seen (Some (values.Kind kind)) above is = absurd cc
-parent-seen (Some (values.Fixed fixed)) above is = absurd cc
-parent-seen (Some (values.Words words)) above is = absurd cc
-parent-seen (Some (values.Notes notes)) above is = absurd cc
-parent-seen (Some (values.Body body)) above is = absurd cc
-parent-seen (Some (values.Value type init)) above is = absurd cc
 
 -- the first that passes, where there is one
 some-found : {X : Type 0} (p : X → Bool) (xs : List X) (x : X) → Contains xs x → p x ≡ true
@@ -121,31 +67,14 @@ module _ (program : Program) (rules : IsProgram program) where
       (All-from_recursion (λ (e : Id × Known). get program.known e.0 ≡ Some e.1) (entries program.known)
       (each_found id_cmp-total id_cmp-IsAntisymmetric program.known)) stands
 
-  living : (class : Id) → HasClass view.classes class → living_at program class ≡ true
-  living class has = both (is_class (get program.known class)) (living_at program class)
-      (sym (has-is program class) ∙ (has_class-decides view.classes ordered.classes class).1 has) where
-        both : (a b : Bool) → (a && b) ≡ true → b ≡ true
-        both true b is = is
-        both false b is = absurd cc
-
   -- ---- the classes above a class
-
-  extended : (class above : Id) → Extends view class above → upward program (Some class) ≡ Some above
-  extended class above extends =
-      ap (living_parent program) (parent-seen (value_at program class slots.Super) above extends.named)
-      ∙ ap (λ b. cond b (Some above) None) (living above extends.stands)
-
-  reached : (class above : Id) → Leads view class above → Reaches program class above
-  reached class above (Leads.last_step extends) = one-step program class above (extended class above extends)
-  reached class above (Leads.step {above = next} extends leads) =
-      further program class next above (one-step program class next (extended class next extends)) (reached next above leads)
 
   abbrev IsOwner : Id → Id → Type 0
   IsOwner class owner = (owner ≡ class) ⊎ IsAncestor view class owner
 
   owner-reached : (class owner : Id) → IsOwner class owner → Reaches program class owner
   owner-reached class owner (inl same) = subst (Reaches program class) (sym same) (itself program class)
-  owner-reached class owner (inr is) = reached class owner ((ancestors_known Id Id).led_to view class owner is)
+  owner-reached class owner (inr is) = reached program rules class owner ((ancestors_known Id Id).led_to view class owner is)
 
   owner-on-way : (class owner : Id) → IsOwner class owner → is_on_way program class owner ≡ true
   owner-on-way class owner is = (on_way-decides program rules class owner).1 (owner-reached class owner is)

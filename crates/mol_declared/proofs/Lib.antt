@@ -3,4 +3,4 @@ pub mod DeclaringFound
 pub mod EntriesMade
 pub mod MembersFound
 pub mod MembersMade
-pub mod NamesAdded
+pub mod OwnersAdded

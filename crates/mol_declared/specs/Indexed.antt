@@ -1,7 +1,5 @@
 -- What indexes of a program find, and how look-ups answer.
-use Rattle.std.specs.Prelude.{◌≡◌, ℕ, ◌&&◌, List, Option, Some, None, option_map, find}
-use Rattle.std.specs.Borrow.{Bor}
-use Rattle.std.specs.List.{list_any}
+use Rattle.std.specs.Prelude.{ℕ, ◌&&◌, List, Option, Some, None, option_map, find}
 use Rattle.std.specs.Ordering.{is_eq}
 use Rattle.std.specs.Str.{bytes_eq}
 use Rattle.jav_view.specs.DottedNames.{Name}
@@ -14,22 +12,19 @@ use Rattle.mol_index.specs.declared.entry.Entry.{Entry}
 use Rattle.mol_spell.specs.ProgramViews.{program_view}
 use Rattle.mol_table.specs.Program.{Program}
 use Rattle.mol_declared.specs.MemberEntries.{entries_of}
+use Rattle.mol_declared.specs.Owners.{AreOwners, field_owners, method_owners}
 use Rattle.mol_declared.specs.declared.entries.Listed.TheVariants as lists
 use Rattle.mol_declared.specs.declared.members.Members.{Members}
 
--- The names are those that some of the fields have.
-abbrev pub AreNamesOf : List (ViewField Id Id) → List (Bor Name) → Type 0
-AreNamesOf fields names =
-    (name : Name) → list_any (λ (known : Bor Name). bytes_eq name known.now) names ≡ list_any (λ field. bytes_eq field.name name) fields
-
--- Each index finds the first of its members.
+-- Each index finds the first of its members, and at names stand the classes of fields and methods.
 pub record AreIndexed (members : Members) (program : Program) : Type 0 where
   pub fields : FindsSame members.fields (entries_of lists.Fields program)
   pub methods : FindsSame members.methods (entries_of lists.Methods program)
   pub constructors : FindsSame members.constructors (entries_of lists.Constructors program)
   pub constructed : FindsSame members.constructed (entries_of lists.Constructed program)
   pub declared : FindsSame members.declared (entries_of lists.Declared program)
-  pub field_names : AreNamesOf (program_view program).fields members.field_names.keys
+  pub field_owners : AreOwners (field_owners (program_view program).fields) members.field_owners.entries
+  pub method_owners : AreOwners (method_owners (program_view program).declarations) members.method_owners.entries
 
 -- the first field of this name that a class declares itself
 abbrev pub declared_field : View Id Id → Id → Name → Option (ViewField Id Id)

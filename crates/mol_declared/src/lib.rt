@@ -4,11 +4,12 @@
 mod constructors;
 mod declaring;
 mod entries;
-mod field_names;
 mod listed;
 mod living;
 mod member_index;
 mod members;
+mod named;
 mod own;
+mod owners;
 
 pub use member_index::MemberIndex;

@@ -1,5 +1,6 @@
 //! A table as the rules on names look at it.
 ghost use Rattle.std.specs.Prelude.{◌≡◌, IfOk};
+ghost use Rattle.mol_hierarchy.specs.Reaching.{IsTopOf};
 ghost use Rattle.mol_table.specs.Ancestors.{is_on_way};
 
 use crate::members::Members;
@@ -66,6 +67,14 @@ impl<'a> MemberIndex<'a> {
         ensures { result ≡ is_on_way self.now class.now above.now }
     {
         self.hierarchy.is_on_way(class, above)
+    }
+
+    /// Where the way up from a class ends: the last class that is met going up while each lives, or a class of the circle in which
+    /// superclasses run. It takes no memory, and the time is logarithmic in the number of classes.
+    pub fn top(&self, class: &Id) -> Id
+        ensures { IsTopOf self.now class.now result }
+    {
+        self.hierarchy.top(class)
     }
 
     /// The classes of the table. It takes no memory.

@@ -3,16 +3,17 @@ ghost use Rattle.std.specs.Prelude.{◌≡◌, IfOk};
 ghost use Rattle.mol_declared.specs.Indexed.{AreIndexed};
 
 use crate::entries::Listed;
-use crate::field_names::field_names;
 use crate::listed::index_of;
-use indexmap::IndexSet;
-use mol_base::OutOfMemory;
+use crate::owners::{field_owners, method_owners};
+use indexmap::IndexMap;
+use mol_base::{Id, List, OutOfMemory};
 use mol_index::Index;
 use mol_table::Table;
 use std::alloc::Global;
 
 /// The members of a table that live: fields by class and name, methods by class, name and number of parameters, constructors by class
-/// and number of parameters, and by class alone; and all declarations by their methods. Beside them the names of the fields alone.
+/// and number of parameters, and by class alone; and all declarations by their methods. Beside them the classes of fields and of methods,
+/// at the names of these.
 #[derive(Drop)]
 pub(crate) struct Members<'a> {
     pub fields: Index,
@@ -20,7 +21,8 @@ pub(crate) struct Members<'a> {
     pub constructors: Index,
     pub constructed: Index,
     pub declared: Index,
-    pub field_names: IndexSet<&'a str>,
+    pub field_owners: IndexMap<&'a str, List<Id>>,
+    pub method_owners: IndexMap<&'a str, List<Id>>,
 }
 
 impl<'a> Members<'a> {
@@ -33,14 +35,16 @@ impl<'a> Members<'a> {
         let constructors = index_of(alloc, table, Listed::Constructors)?;
         let constructed = index_of(alloc, table, Listed::Constructed)?;
         let declared = index_of(alloc, table, Listed::Declared)?;
-        let field_names = field_names(alloc, table)?;
+        let field_owners = field_owners(alloc, table)?;
+        let method_owners = method_owners(alloc, table)?;
         Ok(Members {
             fields,
             methods,
             constructors,
             constructed,
             declared,
-            field_names,
+            field_owners,
+            method_owners,
         })
     }
 }

@@ -1,5 +1,6 @@
 //! Ancestors of classes.
 ghost use Rattle.std.specs.Prelude.{◌≡◌, IfOk};
+ghost use Rattle.mol_hierarchy.specs.Reaching.{IsTopOf};
 ghost use Rattle.mol_table.specs.Ancestors.{is_on_way};
 
 use crate::forest::Forest;
@@ -60,6 +61,18 @@ impl<'a> Hierarchy<'a> {
         match self.forest.numbers.get(above) {
             Some(to) => self.forest.is_up(*from, *to),
             None => false,
+        }
+    }
+
+    /// Where the way up from a class ends: the last class that is met going up while each lives, or a class of the circle in which
+    /// superclasses run. It takes no memory, and the time is logarithmic in the number of classes.
+    pub fn top(&self, class: &Id) -> Id
+        ensures { IsTopOf self.now class.now result }
+    {
+        match self.forest.numbers.get(class) {
+            Some(number) => self.forest.top(*number),
+            // It extends no class that lives.
+            None => *class,
         }
     }
 }

@@ -1,11 +1,11 @@
 -- What going up from a class finds is what the rules find.
-use Rattle.std.proofs.Common.{◌≡◌, ℕ, zero, suc, Bool, true, false, ◌||◌, length, Option, Some, None, option_map, refl, ◌∙◌, ap, bytes_eq}
+use Rattle.std.proofs.Common.{◌≡◌, ℕ, zero, suc, length, Option, Some, None, option_map, refl, ◌∙◌, ap, bytes_eq}
 use Rattle.jav_scope.proofs.Climbing.{climb-way}
 use Rattle.jav_scope.proofs.FoundMembers.{object-or}
 use Rattle.jav_scope.specs.Answers.{answered, or_of_object}
 use Rattle.jav_scope.specs.Climbs.{above, found_first, look_from, climb}
 use Rattle.jav_view.specs.DottedNames.{Name}
-use Rattle.jav_view.specs.LookUps.{way, ends_outside, nearest, found_or, field_from, is_method, method_from}
+use Rattle.jav_view.specs.LookUps.{way, ends_outside, nearest, field_from, is_method, method_from}
 use Rattle.jav_view.specs.Members.{is_object_method}
 use Rattle.jav_view.specs.Views.{ViewField, ViewDeclaration, View, AreOrdered, Found, found, outside, not_found}
 use Rattle.mol_base.specs.declared.ident.Id.{Id}
@@ -16,7 +16,7 @@ use Rattle.mol_table.specs.Program.{Program}
 
 module _ {C M X R : Type 0} (view : View C M) (key : X → R) (here : C → Option X) where
   -- what is found in each class is found in the nearest, whatever is told of it
-  climb-mapped : (steps : ℕ) (class : C)
+  pub climb-mapped : (steps : ℕ) (class : C)
       → answered (λ (r : R). r) (climb steps view (λ c. option_map key (here c)) class) ≡ answered key (climb steps view here class)
   climb-mapped zero class = refl
   climb-mapped (suc steps) class = by (here class) (climb-mapped steps) where

@@ -1,14 +1,12 @@
 -- What is looked for from a class up.
-use Rattle.std.specs.Prelude.{Option, Some, None, option_map, if◌then◌else◌}
-use Rattle.std.specs.Ordering.{is_eq}
+use Rattle.std.specs.Prelude.{Option, option_map}
 use Rattle.jav_view.specs.Views.{View}
 use Rattle.mol_base.specs.declared.ident.Id.{Id}
 use Rattle.mol_declared.specs.Indexed.{declared_field, declared_method}
 use Rattle.mol_inherited.specs.declared.sought.Sought.{Sought}
 use Rattle.mol_inherited.specs.declared.sought.Sought.TheVariants as soughts
 
--- what a class has itself: the first member of a name, or that it is this class
+-- what a class has itself: the first member of a name
 abbrev pub found_in_class : View Id Id → Sought → Id → Option Id
 found_in_class view (soughts.Field name) class = option_map (λ field. field.key) (declared_field view class name.now)
 found_in_class view (soughts.Method name arity) class = option_map (λ declared. declared.key) (declared_method view class name.now arity)
-found_in_class view (soughts.Class above) class = if is_eq (view.classes.cmp above.now class) then Some above.now else None

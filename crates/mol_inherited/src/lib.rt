@@ -2,8 +2,12 @@
 #![tactic(auto)]
 
 mod ancestors;
+mod climbed;
+mod ends;
 mod members;
 mod nearest;
+mod owners;
+mod rules;
 mod sought;
 mod supers;
 

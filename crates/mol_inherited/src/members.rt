@@ -12,7 +12,7 @@ use mol_declared::MemberIndex;
 
 /// The field of this name that is nearest from a class up: the class and its superclasses that live, up to one that was met already
 /// (JLS 8.3). Without one it is outside where they end in an outside class. It takes no memory. The time is logarithmic in the number of
-/// fields for each class from this one up to that of the field.
+/// classes and fields. Where more than 16 fields have the name it is that for each class from this one up to that of the field.
 pub fn field_of(members: &MemberIndex<'_>, class: &Id, name: &str) -> Found<Id>
     ensures { result ≡ answered (λ field. field.key) (field_from (program_view members.now) class.now name.now) }
 {
@@ -21,7 +21,7 @@ pub fn field_of(members: &MemberIndex<'_>, class: &Id, name: &str) -> Found<Id>
 
 /// The declaration of the method of this name and number of parameters that is nearest from a class up (JLS 8.4.8, 15.12.2). Without one
 /// it is outside where the superclasses end in an outside class, or where `Object` has it. It takes no memory, and as much time as
-/// `field_of`.
+/// `field_of`, by the declarations of methods of the name, whatever their parameters.
 pub fn method_of(members: &MemberIndex<'_>, class: &Id, name: &Text, arity: u32) -> Found<Id>
     ensures { result ≡ answered (λ declared. declared.key) (method_from (program_view members.now) class.now name.now arity) }
 {

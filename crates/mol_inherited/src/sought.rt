@@ -1,7 +1,5 @@
 //! What is looked for from a class up.
-ghost use Rattle.std.specs.Prelude.{◌≡◌, Some, None, if◌then◌else◌};
-ghost use Rattle.std.specs.Ordering.{is_eq};
-ghost use Rattle.mol_base.specs.Order.{id_cmp};
+ghost use Rattle.std.specs.Prelude.{◌≡◌};
 ghost use Rattle.mol_spell.specs.ProgramViews.{program_view};
 ghost use Rattle.mol_inherited.specs.Soughts.{found_in_class};
 
@@ -15,8 +13,6 @@ pub(crate) enum Sought<'a> {
     Field(&'a str),
     /// A method by its name and its number of parameters.
     Method(&'a str, u32),
-    /// This class itself.
-    Class(&'a Id),
 }
 
 /// What a class has itself of what is looked for.
@@ -30,13 +26,5 @@ pub(crate) fn found_in_class(
     match sought {
         Sought::Field(name) => members.declared_field(class, name),
         Sought::Method(name, arity) => members.declared_method(class, name, arity),
-        Sought::Class(above) => class_itself(above, class),
     }
-}
-
-/// The class that is looked for, if it is this class.
-fn class_itself(above: &Id, class: &Id) -> Option<Id>
-    ensures { result ≡ (if is_eq (id_cmp above.now class.now) then Some above.now else None) }
-{
-    if above == class { Some(*above) } else { None }
 }
