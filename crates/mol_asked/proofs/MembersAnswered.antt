@@ -13,7 +13,7 @@ use Rattle.mol_asked.proofs.FoundMembers.{declaration-kind, default-own, field-s
 use Rattle.mol_asked.specs.Places.{IsFoundIn, program_of, reader_of}
 use Rattle.mol_asked.specs.declared.place.NamePlace.{NamePlace}
 use Rattle.mol_base.specs.declared.ident.Id.{Id}
-use Rattle.mol_declared.specs.Indexed.{constructor_id}
+use Rattle.mol_leftmost.specs.Indexed.{constructor_id}
 use Rattle.mol_references.specs.References.{Target, default_target, field_target, method_target, outside_target}
 use Rattle.mol_spell.specs.ProgramViews.{kind_in, method_at, program_view}
 use Rattle.mol_spell.specs.Readers.{Reader}

@@ -25,9 +25,9 @@ use Rattle.mol_spell.specs.ProgramViews.{program_view}
 use Rattle.mol_spell.specs.Readers.{Parameter, place_of}
 use Rattle.mol_spelling.specs.Answers.{name_answer, variable_answer}
 use Rattle.mol_values.specs.declared.param.Param.{Param}
-use Rattle.mol_variables.specs.Keys.{variable_key}
-use Rattle.mol_variables.specs.declared.variable.Variable.{Variable}
-use Rattle.mol_variables.specs.declared.variable.Variable.TheVariants as kept
+use Rattle.mol_leftmost.specs.Keys.{variable_key}
+use Rattle.mol_leftmost.specs.Variable.{Variable}
+use Rattle.mol_leftmost.specs.Variable.TheVariants as kept
 
 -- names that follow a first one, as one text
 pub joined-is : (front : Name) (rest : Option (Bor Name)) → with_rest front rest ≡ joined front (names_in rest)

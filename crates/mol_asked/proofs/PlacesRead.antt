@@ -11,8 +11,8 @@ use Rattle.mol_spell.specs.ProgramReaders.{class_header}
 use Rattle.mol_spell.specs.ProgramViews.{program_view}
 use Rattle.mol_spell.specs.Readers.{place_of}
 use Rattle.mol_spelling.specs.Answers.{type_read}
-use Rattle.mol_typenames.specs.Readings.{classes_of, header_of}
-use Rattle.mol_typenames.specs.declared.class_file.ClassFile.{ClassFile}
+use Rattle.mol_leftmost.specs.TypeReadings.{classes_of, header_of}
+use Rattle.mol_leftmost.specs.ClassFile.{ClassFile}
 
 module _ (place : NamePlace) where
   pub place-is : (locals : Locals Id) → IsAt place locals → file_place place.variables place.imports.now ≡ place_of (reader_of place) locals

@@ -10,7 +10,7 @@ use Rattle.jav_view.specs.Views.{View, Found as Result, found, outside, not_foun
 use Rattle.mol_asked.specs.Places.{program_of, reader_of}
 use Rattle.mol_asked.specs.declared.place.NamePlace.{NamePlace}
 use Rattle.mol_base.specs.declared.ident.Id.{Id}
-use Rattle.mol_inherited.proofs.SupersFound.{from-above, from-nothing, from-outside}
+use Rattle.mol_leftmost.proofs.SupersFound.{from-above, from-nothing, from-outside}
 use Rattle.mol_references.specs.References.{Target, outside_target}
 use Rattle.mol_spell.specs.ProgramViews.{program_view}
 use Rattle.mol_spelling.specs.Answers.{constructor_answer, constructor_of}

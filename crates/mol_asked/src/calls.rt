@@ -17,7 +17,7 @@ use crate::names::written;
 use crate::place::NamePlace;
 use jav_scope::Found;
 use mol_base::{Id, Text};
-use mol_inherited::{method_of, super_method};
+use mol_leftmost::{method_of, super_method};
 use mol_table::{Known, MethodKind};
 
 impl<'b> NamePlace<'_, 'b> {

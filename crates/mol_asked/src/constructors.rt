@@ -14,8 +14,7 @@ use crate::place::NamePlace;
 use crate::types::imported;
 use jav_scope::Found;
 use mol_base::Id;
-use mol_classes::superclass_of;
-use mol_typenames::TypeReading;
+use mol_leftmost::{TypeReading, superclass_of};
 
 impl<'b> NamePlace<'_, 'b> {
     /// What the name of a type after `new` reads as, with so many arguments: a constructor of a class, or what is outside. It takes no

@@ -16,5 +16,8 @@ mod types;
 pub use answer::Answer;
 pub use dotted_text::DottedText;
 pub use laws::answers_decided;
+pub use mol_leftmost::{
+    FirstType, Leftmost, MemberIndex, Variable, VariablePlace, field_of, leftmost,
+};
 pub use place::NamePlace;
 pub use target::Target;

@@ -17,7 +17,7 @@ use crate::place::NamePlace;
 use jav_scope::{Found, is_object_method};
 use mol_base::{Id, Text};
 use mol_cells::is_static_field;
-use mol_inherited::{field_of, method_of};
+use mol_leftmost::{field_of, method_of};
 use mol_types::StaticType;
 
 impl<'b> NamePlace<'_, 'b> {

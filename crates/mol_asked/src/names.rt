@@ -11,15 +11,14 @@ ghost use Rattle.mol_references.specs.References.{local_target, outside_target, 
 ghost use Rattle.mol_spell.specs.Locals.{Locals};
 ghost use Rattle.mol_spelling.specs.Answers.{answer, before_answer, path_answer, variable_answer};
 ghost use Rattle.mol_spelling.specs.Writers.{name_asked, name_before_asked, path_asked};
-ghost use Rattle.mol_variables.specs.Keys.{variable_key};
+ghost use Rattle.mol_leftmost.specs.Keys.{variable_key};
 
 use crate::answer::Answer;
 use crate::dotted_text::DottedText;
 use crate::place::NamePlace;
 use jav_scope::Found;
 use mol_base::Text;
-use mol_leftmost::{FirstType, Leftmost, leftmost};
-use mol_variables::Variable;
+use mol_leftmost::{FirstType, Leftmost, Variable, leftmost};
 
 impl<'b> NamePlace<'_, 'b> {
     /// What a name reads as that stands alone: a variable, or a field that may come from an outside superclass. It takes no memory, and as

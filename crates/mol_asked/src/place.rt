@@ -5,9 +5,8 @@ ghost use Rattle.mol_spell.specs.ProgramViews.{method_at};
 
 use jav_imports::ImportIndex;
 use mol_base::Id;
+use mol_leftmost::{ClassFile, VariablePlace};
 use mol_table::{Known, Param, Table};
-use mol_typenames::ClassFile;
-use mol_variables::VariablePlace;
 
 /// A place in the file of a class of a table, where names are read. The class need not live.
 #[derive(Clone, Copy)]

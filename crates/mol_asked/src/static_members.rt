@@ -15,8 +15,7 @@ use crate::place::NamePlace;
 use jav_scope::Found;
 use mol_base::{Id, Text};
 use mol_cells::is_static_field;
-use mol_inherited::{field_of, method_of};
-use mol_leftmost::{FirstType, Leftmost, leftmost};
+use mol_leftmost::{FirstType, Leftmost, field_of, leftmost, method_of};
 
 impl<'b> NamePlace<'_, 'b> {
     /// What the name of a static field reads as after these names, whatever names follow it. It takes no memory. The time is that of

@@ -14,7 +14,7 @@ use crate::dotted_text::DottedText;
 use crate::names::written;
 use crate::place::NamePlace;
 use mol_base::Text;
-use mol_typenames::TypeReading;
+use mol_leftmost::TypeReading;
 
 impl<'b> NamePlace<'_, 'b> {
     /// What the name of a type reads as, simple or with dots. It takes no memory. The time is linear in the length of the name and

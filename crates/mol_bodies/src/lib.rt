@@ -12,3 +12,4 @@ mod loops;
 mod simple;
 
 pub use body_writer::BodyWriter;
+pub use mol_body_places::Places;

@@ -1,3 +1,4 @@
+pub use Rattle.mol_expr_misreads.proofs.AnswersTested
 pub mod Declared
 pub mod InTurn
 pub mod Looped

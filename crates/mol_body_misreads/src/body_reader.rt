@@ -7,13 +7,11 @@ ghost use Rattle.mol_expr_misreads.specs.Places.{AreReadAt};
 ghost use Rattle.mol_spelling.specs.SpelledStatements.{spelled_body};
 
 use crate::cell_place::CellPlace;
-use mol_asked::NamePlace;
 use mol_base::OutOfMemory;
 use mol_body_locals::BodyLocals;
 use mol_body_places::Places;
-use mol_expr_misreads::Misreads;
+use mol_expr_misreads::{Misreads, NamePlace, VariablePlace};
 use mol_values::IBody;
-use mol_variables::VariablePlace;
 use std::alloc::Global;
 
 /// Reads the names in a cell of a program as they are printed: how they are written is asked of `places`, and they are read at this place,

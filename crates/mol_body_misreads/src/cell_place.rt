@@ -1,7 +1,7 @@
 //! Where the names in a cell are read.
 use jav_imports::ImportIndex;
 use mol_base::Id;
-use mol_declared::MemberIndex;
+use mol_expr_misreads::MemberIndex;
 use mol_scope_names::ParamNames;
 use mol_table::Param;
 

@@ -14,3 +14,4 @@ mod values;
 
 pub use body_reader::BodyReader;
 pub use cell_place::CellPlace;
+pub use mol_expr_misreads::{Misread, Misreads};

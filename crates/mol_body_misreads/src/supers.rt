@@ -1,6 +1,6 @@
 //! `super(..)` (JLS 8.8.7.1).
 ghost use Rattle.std.specs.Prelude.{◌≡◌, ◌∷◌, OnOk, codes, length};
-ghost use Rattle.mol_asked.specs.Answers.{target_of};
+ghost use Rattle.mol_expr_misreads.specs.Answers.{target_of};
 ghost use Rattle.mol_body_locals.specs.Kept.{locals_of};
 ghost use Rattle.mol_body_misreads.specs.CellPlaces.{IsReadAt};
 ghost use Rattle.mol_body_misreads.specs.PartReferences.{super_reference};
@@ -9,11 +9,10 @@ ghost use Rattle.mol_expr_misreads.specs.References.{all_references, argument_re
 ghost use Rattle.mol_references.specs.References.{default_target, method_target, outside_target};
 
 use crate::body_reader::BodyReader;
-use mol_asked::Target;
 use mol_base::{Id, OutOfMemory};
 use mol_body_locals::BodyLocals;
 use mol_body_places::{InBody, Places};
-use mol_expr_misreads::{ExprReader, Misreads};
+use mol_expr_misreads::{ExprReader, Misreads, Target};
 use mol_values::{Argument, IExpr};
 
 impl<'a, P: Places> BodyReader<'a, '_, P> {

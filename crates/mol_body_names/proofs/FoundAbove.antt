@@ -21,7 +21,7 @@ use Rattle.mol_body_names.specs.FilePlaces.{writer_of}
 use Rattle.mol_hierarchy.proofs.Following.{itself}
 use Rattle.mol_hierarchy.proofs.OnWays.{on_way-decides}
 use Rattle.mol_hierarchy.specs.Reaching.{Reaches}
-use Rattle.mol_inherited.proofs.Reached.{reached}
+use Rattle.mol_variables.proofs.Reached.{reached}
 use Rattle.mol_spell.proofs.ProgramsViewed.{programs_viewed}
 use Rattle.mol_spell.proofs.Stands.{from_some}
 use Rattle.mol_spell.specs.ProgramViews.{declaration_of, field_of, living_declaration, living_field, method_at, method_in, program_view}

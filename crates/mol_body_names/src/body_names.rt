@@ -9,9 +9,9 @@ ghost use Rattle.mol_values.specs.declared.cell.Slot.{Slot};
 use crate::file_names::FileNames;
 use mol_base::{Id, OutOfMemory};
 use mol_cells::params_of;
-use mol_declared::MemberIndex;
 use mol_scope_names::ParamNames;
 use mol_table::{Known, Table};
+use mol_variables::MemberIndex;
 use std::alloc::Global;
 
 /// A place where names of a table are written: in the file of a class, in a declaration of a method or in none.

@@ -2,10 +2,10 @@
 ghost use Rattle.std.specs.Prelude.{◌≡◌, Bool, true, []};
 ghost use Rattle.jav_view.specs.DottedNames.{Names as NameList};
 ghost use Rattle.mol_spelling.specs.Writers.{Importable as Named};
-ghost use Rattle.mol_written.specs.Importables.{importable_of};
+ghost use Rattle.mol_body_places.specs.Importables.{importable_of};
 
 use mol_base::Text;
-use mol_written::Importable;
+use mol_body_places::Importable;
 
 /// Which classes and imported types have their simple names in the file of a class.
 pub trait FileNames {

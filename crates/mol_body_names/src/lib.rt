@@ -11,3 +11,5 @@ mod variables;
 
 pub use body_names::BodyNames;
 pub use file_names::{AllSimple, FileNames};
+pub use mol_body_places::Places;
+pub use mol_variables::MemberIndex;

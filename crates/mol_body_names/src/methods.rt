@@ -9,9 +9,8 @@ ghost use Rattle.mol_table.specs.Program.{name_at};
 use crate::params::is_same;
 use jav_scope::Found;
 use mol_base::{Id, Text};
-use mol_declared::MemberIndex;
-use mol_inherited::method_of;
 use mol_table::{Cell, Known, Slot, Table, Value};
+use mol_variables::{MemberIndex, method_of};
 use std::alloc::Global;
 
 /// The declaration that the name of a method reads as in a class, with so many arguments.

@@ -6,9 +6,8 @@ use crate::params::present_param;
 use crate::variables::is_field;
 use mol_base::Id;
 use mol_body_locals::BodyLocals;
-use mol_body_places::Places;
+use mol_body_places::{Importable, Places};
 use mol_cells::{name_of, owner_of, package_of};
-use mol_written::Importable;
 
 impl<F: FileNames> Places for BodyNames<'_, F> {
     ghost use Rattle.mol_body_names.specs.FilePlaces.{writer_of};

@@ -10,8 +10,8 @@ use Rattle.jav_view.specs.DottedNames.{Name}
 use Rattle.mol_base.specs.declared.ident.Id.{Id}
 use Rattle.mol_body_places.specs.Statements.{else_spelling, if_spelling, node_spelling, statements_spelling, stmt_spelling}
 use Rattle.mol_spell.specs.Locals.{Locals, at_end_of_block}
-use Rattle.mol_spelling.specs.SpelledStatements.{Spells, block_step, else_step, if_step, in_block, mapped, node_step, one_expr, spelled_block, stmt_step, then_next}
-use Rattle.mol_spelling.specs.Writers.{Writer}
+use Rattle.mol_written.specs.SpelledStatements.{Spells, block_step, else_step, if_step, in_block, mapped, node_step, one_expr, spelled_block, stmt_step, then_next}
+use Rattle.mol_written.specs.Writers.{Writer}
 use Rattle.mol_values.specs.declared.iblock.IBlock.{IBlock, out-IBlock}
 use Rattle.mol_values.specs.declared.iblock.IElse.{IElse}
 use Rattle.mol_values.specs.declared.iblock.IElse.TheFolds.{fold-roll-IElse, fold-roll-IStmtNode, fold-roll-IStmt, fold_out-IBlock, fold_out-IIf, map-IStmtNode}

@@ -1,1 +1,2 @@
+pub use Rattle.mol_written.specs.Importables
 pub mod Statements

@@ -4,8 +4,8 @@ use Rattle.jav_tree.specs.declared.stmt.Block.{Block}
 use Rattle.jav_tree.specs.declared.stmt.Else.{Else}
 use Rattle.jav_tree.specs.declared.stmt.Stmt.{Stmt}
 use Rattle.jav_tree.specs.declared.stmt.StmtNode.{StmtNode}
-use Rattle.mol_spelling.specs.SpelledStatements.{Spells, each, else_step, node_step, block_step, if_step, stmt_step}
-use Rattle.mol_spelling.specs.Writers.{Writer}
+use Rattle.mol_written.specs.SpelledStatements.{Spells, each, else_step, node_step, block_step, if_step, stmt_step}
+use Rattle.mol_written.specs.Writers.{Writer}
 use Rattle.mol_values.specs.declared.iblock.IElse.{IElse, fold-IElse}
 use Rattle.mol_values.specs.declared.iblock.IIf.{IIf, fold-IIf}
 use Rattle.mol_values.specs.declared.iblock.IStmt.{IStmt, fold-IStmt}

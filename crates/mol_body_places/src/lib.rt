@@ -5,4 +5,5 @@ mod in_body;
 mod places;
 
 pub use in_body::InBody;
+pub use mol_written::Importable;
 pub use places::Places;

@@ -3,8 +3,8 @@ ghost use Rattle.std.specs.Prelude.{◌≡◌};
 ghost use Rattle.mol_body_locals.specs.Kept.{locals_of};
 ghost use Rattle.mol_spell.specs.Locals.{no_locals};
 ghost use Rattle.mol_spell.specs.StaticTypes.{class_of_only_declaration};
-ghost use Rattle.mol_spelling.specs.SpelledExpressions.{param_name, reads_field, reads_method};
-ghost use Rattle.mol_spelling.specs.Writers.{Writer, is_hidden};
+ghost use Rattle.mol_written.specs.SpelledExpressions.{param_name, reads_field, reads_method};
+ghost use Rattle.mol_written.specs.Writers.{Writer, is_hidden};
 ghost use Rattle.mol_table.specs.Program.{name_at, owner_at, package_at};
 ghost use Rattle.mol_written.specs.Importables.{importable_of};
 

@@ -1,3 +1,4 @@
+pub use Rattle.mol_uses.proofs.Added
 pub mod DeclarationUses
 pub mod DeclaredTypes
 pub mod InTurn

@@ -11,4 +11,5 @@ mod types;
 mod values;
 
 pub use body_uses::BodyUses;
+pub use mol_uses::Uses;
 pub use types::add_declared_type;

@@ -1,0 +1,1 @@
+pub use Rattle.mol_spell.proofs.Stands

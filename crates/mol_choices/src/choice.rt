@@ -5,8 +5,7 @@ ghost use Rattle.mol_spell.specs.ProgramViews.{program_view};
 ghost use Rattle.mol_types.specs.Kept.{view_value};
 
 use mol_base::{Id, OutOfMemory};
-use mol_declared::MemberIndex;
-use mol_inherited::is_ancestor;
+use mol_inherited::{MemberIndex, is_ancestor};
 use mol_types::{StaticType, same_values};
 use std::alloc::Global;
 

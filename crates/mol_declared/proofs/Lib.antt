@@ -1,3 +1,4 @@
+pub use Rattle.mol_classes.proofs.LivingClasses
 pub mod ConstructorsFound
 pub mod DeclaringFound
 pub mod EntriesMade

@@ -13,3 +13,4 @@ mod own;
 mod owners;
 
 pub use member_index::MemberIndex;
+pub use mol_classes::superclass_of;

@@ -1,3 +1,4 @@
+pub use Rattle.mol_instead.proofs.AnswersTested
 pub mod CutNames
 pub mod FollowersKept
 pub mod ModeFree

@@ -5,7 +5,7 @@ use Rattle.std.specs.List.{flat_map}
 use Rattle.std.specs.Option.{option_and_then}
 use Rattle.mol_base.specs.declared.ident.Id.{Id}
 use Rattle.jav_view.specs.OnValues.{StaticType}
-use Rattle.mol_asked.specs.Answers.{is_answer}
+use Rattle.mol_instead.specs.Answers.{is_answer}
 use Rattle.mol_expr_misreads.specs.Noted.{Noted, misreading, note, noted_after}
 use Rattle.mol_expr_misreads.specs.Readings.{program_target}
 use Rattle.mol_references.specs.References.{Target}

@@ -6,8 +6,8 @@ use Rattle.jav_view.proofs.CutNames.{names_cut}
 use Rattle.jav_view.specs.DottedNames.{cut}
 use Rattle.jav_view.specs.OnValues.{StaticType, mixed_value}
 use Rattle.jav_view.specs.StaticTypes.{of_type}
-use Rattle.mol_asked.specs.Places.{IsAt, reader_of}
-use Rattle.mol_asked.specs.declared.place.NamePlace.{NamePlace}
+use Rattle.mol_instead.specs.Places.{IsAt, reader_of}
+use Rattle.mol_instead.specs.NamePlace.{NamePlace}
 use Rattle.mol_base.specs.declared.ident.Id.{Id}
 use Rattle.mol_body_locals.specs.Kept.{Kept, local_of, locals_of}
 use Rattle.mol_body_locals.specs.declared.body_local.BodyLocal.{BodyLocal}

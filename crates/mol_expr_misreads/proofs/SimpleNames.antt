@@ -5,9 +5,9 @@ use Rattle.jav_view.specs.DottedNames.{Name}
 use Rattle.jav_view.specs.LookUps.{method_from, variable}
 use Rattle.jav_view.specs.Variables.{Variable, local_variable, parameter_variable, field_variable}
 use Rattle.jav_view.specs.Views.{ViewDeclaration, Found, found, outside, not_found}
-use Rattle.mol_asked.specs.Answers.{is_answer}
-use Rattle.mol_asked.specs.Places.{reader_of}
-use Rattle.mol_asked.specs.declared.place.NamePlace.{NamePlace}
+use Rattle.mol_instead.specs.Answers.{is_answer}
+use Rattle.mol_instead.specs.Places.{reader_of}
+use Rattle.mol_instead.specs.NamePlace.{NamePlace}
 use Rattle.mol_base.specs.declared.ident.Id.{Id}
 use Rattle.mol_expr_misreads.proofs.NotedMore.{note-reads}
 use Rattle.mol_expr_misreads.proofs.VariableModes.{field-variable, reads-alike}

@@ -6,7 +6,7 @@ use Rattle.jav_view.specs.LookUps.{class_or_outside, fewest, leftmost_type, simp
 use Rattle.jav_view.specs.Types.{TypeReading, class_read, imported, written, no_type}
 use Rattle.jav_view.specs.Variables.{Variable}
 use Rattle.jav_view.specs.Views.{Classes, Found, found, outside, not_found}
-use Rattle.mol_asked.specs.Answers.{is_answer}
+use Rattle.mol_instead.specs.Answers.{is_answer}
 use Rattle.mol_base.specs.declared.ident.Id.{Id}
 use Rattle.mol_references.specs.References.{Target, class_target, field_target, outside_target}
 use Rattle.mol_spell.specs.Locals.{Locals}

@@ -1,3 +1,4 @@
+pub use Rattle.mol_instead.specs.Answers
 pub mod Kept
 pub mod Names
 pub mod Noted

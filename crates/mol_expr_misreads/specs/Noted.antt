@@ -4,7 +4,7 @@ use Rattle.std.specs.List.{fold}
 use Rattle.std.specs.Option.{option_and_then}
 use Rattle.mol_base.specs.declared.ident.Id.{Id}
 use Rattle.jav_view.specs.OnValues as value
-use Rattle.mol_asked.specs.Answers.{is_answer}
+use Rattle.mol_instead.specs.Answers.{is_answer}
 use Rattle.mol_expr_misreads.specs.Readings.{program_target}
 use Rattle.mol_references.specs.References.{Target}
 use Rattle.mol_spelling.specs.Answers.{answered}

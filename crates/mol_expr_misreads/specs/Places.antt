@@ -1,7 +1,7 @@
 -- Where the names of an expression are written and read.
 use Rattle.std.specs.Prelude.{◌≡◌}
-use Rattle.mol_asked.specs.Places.{IsAt, program_of, reader_of}
-use Rattle.mol_asked.specs.declared.place.NamePlace.{NamePlace}
+use Rattle.mol_instead.specs.Places.{IsAt, program_of, reader_of}
+use Rattle.mol_instead.specs.NamePlace.{NamePlace}
 use Rattle.mol_base.specs.declared.ident.Id.{Id}
 use Rattle.mol_body_locals.specs.Kept.{Kept, locals_of}
 use Rattle.mol_spell.specs.Locals.{Locals}

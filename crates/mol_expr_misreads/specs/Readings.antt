@@ -1,7 +1,7 @@
 -- How names read, beside what they are the names of.
 use Rattle.std.specs.Prelude.{Option, None, Some, option_map, if◌then◌else◌}
 use Rattle.std.specs.Option.{option_and_then}
-use Rattle.mol_asked.specs.Answers.{is_answer}
+use Rattle.mol_instead.specs.Answers.{is_answer}
 use Rattle.mol_base.specs.declared.ident.Id.{Id}
 use Rattle.mol_expr_misreads.specs.declared.reading.Reading.{Reading}
 use Rattle.mol_expr_misreads.specs.declared.reading.Reading.TheVariants as readings

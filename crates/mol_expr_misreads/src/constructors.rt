@@ -1,7 +1,7 @@
 //! Constructors after `new` (JLS 15.9) and by `super(..)` (JLS 8.8.7.1).
 ghost use Rattle.std.specs.Prelude.{◌≡◌, ◌∷◌, [], IfOk, OnOk};
 ghost use Rattle.jav_view.specs.OnValues.{class_value};
-ghost use Rattle.mol_asked.specs.Answers.{target_of};
+ghost use Rattle.mol_instead.specs.Answers.{target_of};
 ghost use Rattle.mol_expr_misreads.specs.Names.{created_class_reference, created_value};
 ghost use Rattle.mol_expr_misreads.specs.Noted.{IsRead, note};
 ghost use Rattle.mol_expr_misreads.specs.Places.{AreReadAt};
@@ -13,8 +13,8 @@ ghost use Rattle.mol_spelling.specs.Writers.{super_constructor_asked};
 use crate::expr_reader::ExprReader;
 use crate::misreads::Misreads;
 use crate::reads::{constructor_reads, super_reads};
-use mol_asked::Target;
 use mol_base::{Id, OutOfMemory, number_of};
+use mol_instead::Target;
 use mol_types::StaticType;
 use mol_written::{Importable, Names, TypePlace};
 

@@ -1,7 +1,7 @@
 //! Where the names of expressions are read.
 ghost use Rattle.std.specs.Prelude.{◌≡◌, IfOk, OnOk, false, option_map};
 ghost use Rattle.std.specs.Option.{option_and_then};
-ghost use Rattle.mol_asked.specs.Answers.{is_answer, target_of};
+ghost use Rattle.mol_instead.specs.Answers.{is_answer, target_of};
 ghost use Rattle.mol_expr_misreads.specs.Noted.{note};
 ghost use Rattle.mol_expr_misreads.specs.Places.{AreReadAt};
 ghost use Rattle.mol_expr_misreads.specs.Readings.{kept_reading, program_target, reads_as};
@@ -15,11 +15,10 @@ ghost use Rattle.mol_support.specs.Met.{kept_met};
 
 use crate::misreads::Misreads;
 use crate::reading::{Reading, met_in};
-use mol_asked::{NamePlace, Target};
 use mol_base::{OutOfMemory, Text};
 use mol_body_locals::BodyLocals;
 use mol_fault::Target as FaultTarget;
-use mol_instead::InsteadPlace;
+use mol_instead::{InsteadPlace, NamePlace, Target};
 use mol_support::Met;
 use mol_table::Table;
 use mol_written::Names;

@@ -15,8 +15,8 @@ use crate::paths::static_field_reads;
 use crate::reads::field_reads;
 use crate::spelled::add_name;
 use crate::values::field_value;
-use mol_asked::Target;
 use mol_base::{Id, OutOfMemory, Text};
+use mol_instead::Target;
 use mol_types::StaticType;
 use mol_written::{Importable, Names, TypePlace};
 

@@ -23,3 +23,4 @@ mod variables;
 
 pub use expr_reader::ExprReader;
 pub use misreads::{Misread, Misreads};
+pub use mol_instead::{MemberIndex, NamePlace, Target, VariablePlace};

@@ -10,8 +10,8 @@ use crate::expr_reader::ExprReader;
 use crate::misreads::Misreads;
 use crate::paths::static_method_reads;
 use crate::reads::{call_reads, method_reads, super_method_reads};
-use mol_asked::Target;
 use mol_base::{Id, OutOfMemory, Text, number_of};
+use mol_instead::Target;
 use mol_types::StaticType;
 use mol_written::{Importable, Names, TypePlace};
 

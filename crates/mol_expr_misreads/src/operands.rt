@@ -15,9 +15,9 @@ ghost use Rattle.mol_written.specs.declared.type_place.TypePlace.TheVariants as 
 use crate::expr_reader::ExprReader;
 use crate::misreads::Misreads;
 use crate::reads::index_reads;
-use mol_asked::Target;
 use mol_base::{OutOfMemory, Text, is_step};
 use mol_choices::common;
+use mol_instead::Target;
 use mol_types::StaticType;
 use mol_values::{IExpr, IType};
 use mol_written::{Names, TypePlace};

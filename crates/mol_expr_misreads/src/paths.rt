@@ -2,7 +2,7 @@
 //! has no number of 32 bits.
 ghost use Rattle.std.specs.Prelude.{◌≡◌, ◌≤◌, ◌<◌, ◌∷◌, ◌++◌, IfOk, None, length, suc};
 ghost use Rattle.jav_view.specs.DottedNames.{Dotted, Name, Names as NameList};
-ghost use Rattle.mol_asked.specs.Answers.{dotted_of, target_of};
+ghost use Rattle.mol_instead.specs.Answers.{dotted_of, target_of};
 ghost use Rattle.mol_base.specs.declared.ident.Id.{Id as Identity};
 ghost use Rattle.mol_expr_misreads.specs.Readings.{kept_reading, reads_as};
 ghost use Rattle.mol_instead.specs.Kept.{locals_at, reader_at, IsPlace};
@@ -12,9 +12,8 @@ ghost use Rattle.mol_spelling.specs.Writers.{Writer, path_asked, static_field_as
 
 use crate::reading::{Reading, met_by};
 use crate::reads::name_reads;
-use mol_asked::{DottedText, Target};
 use mol_base::{OutOfMemory, Text};
-use mol_instead::InsteadPlace;
+use mol_instead::{DottedText, InsteadPlace, Target};
 
 /// The names of a type outside before a dot: they are given as a text whose front is the first of them; and again as the first so many of
 /// these names, before those that follow.

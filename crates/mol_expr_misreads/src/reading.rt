@@ -1,11 +1,11 @@
 //! How a name reads, beside what it is the name of.
 ghost use Rattle.std.specs.Prelude.{◌≡◌, option_map};
 ghost use Rattle.std.specs.Option.{option_and_then};
-ghost use Rattle.mol_asked.specs.Answers.{answer_of, target_of};
+ghost use Rattle.mol_instead.specs.Answers.{answer_of, target_of};
 ghost use Rattle.mol_expr_misreads.specs.Readings.{kept_reading, program_target, reading};
 ghost use Rattle.mol_support.specs.Met.{kept_met};
 
-use mol_asked::{Answer, Target};
+use mol_instead::{Answer, Target};
 use mol_support::Met;
 
 /// How a name reads.

@@ -2,8 +2,8 @@
 //! much time as the call of the place that it makes.
 ghost use Rattle.std.specs.Prelude.{◌≡◌, ◌≤◌, ◌∷◌, Some, length};
 ghost use Rattle.jav_view.specs.DottedNames.{Name, Names as NameList};
-ghost use Rattle.mol_asked.specs.Answers.{target_of, text_of};
-ghost use Rattle.mol_asked.specs.Places.{IsAt, reader_of};
+ghost use Rattle.mol_instead.specs.Answers.{target_of, text_of};
+ghost use Rattle.mol_instead.specs.Places.{IsAt, reader_of};
 ghost use Rattle.mol_base.specs.declared.ident.Id.{Id as Identity};
 ghost use Rattle.mol_expr_misreads.specs.Readings.{kept_reading, reading, reads_as};
 ghost use Rattle.mol_references.specs.References.{outside_target};
@@ -12,8 +12,8 @@ ghost use Rattle.mol_spelling.specs.Writers.{call_asked, constructor_asked, fiel
 ghost use Rattle.mol_types.specs.Kept.{view_value};
 
 use crate::reading::Reading;
-use mol_asked::{Answer, DottedText, NamePlace, Target};
 use mol_base::Text;
+use mol_instead::{Answer, DottedText, NamePlace, Target};
 use mol_types::StaticType;
 
 /// The name of a type.

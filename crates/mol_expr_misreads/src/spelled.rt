@@ -1,15 +1,15 @@
 //! Classes and imported types as they are spelled (JLS 6.5.5, 6.7).
 ghost use Rattle.std.specs.Prelude.{◌≡◌, ◌++◌, ◌∷◌, [], IfOk, OnOk};
 ghost use Rattle.jav_view.specs.DottedNames.{cut, dot};
-ghost use Rattle.mol_asked.specs.Answers.{dotted_of};
+ghost use Rattle.mol_instead.specs.Answers.{dotted_of};
 ghost use Rattle.mol_expr_misreads.specs.Paths.{names_of};
 ghost use Rattle.mol_spelling.specs.Writers.{full_of, simple_of, spelled};
 ghost use Rattle.mol_written.specs.Importables.{hides_at, importable_of, is_spelled_simply};
 
 use crate::expr_reader::ExprReader;
 use jav_scope::simple_name;
-use mol_asked::DottedText;
 use mol_base::{OutOfMemory, Text};
+use mol_instead::DottedText;
 use mol_written::{Importable, Names, TypePlace};
 use std::alloc::Global;
 

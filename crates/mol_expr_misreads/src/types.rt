@@ -1,7 +1,7 @@
 //! The names of types (JLS 6.5.5).
 ghost use Rattle.std.specs.Prelude.{◌≡◌, IfOk, OnOk};
 ghost use Rattle.jav_view.specs.TypeTexts.{imported_text};
-ghost use Rattle.mol_asked.specs.Answers.{target_of};
+ghost use Rattle.mol_instead.specs.Answers.{target_of};
 ghost use Rattle.mol_expr_misreads.specs.Noted.{note, noted_after};
 ghost use Rattle.mol_expr_misreads.specs.Places.{AreReadAt};
 ghost use Rattle.mol_expr_misreads.specs.References.{asked_by, asked_references, created_references, place_of, type_references};
@@ -12,8 +12,8 @@ use crate::expr_reader::ExprReader;
 use crate::misreads::Misreads;
 use crate::reads::{constructor_reads, type_reads};
 use crate::spelled::with_dot;
-use mol_asked::Target;
 use mol_base::{Id, OutOfMemory, Text, number_of};
+use mol_instead::Target;
 use mol_values::IType;
 use mol_written::{Importable, Names, TypePlace};
 use std::alloc::Global;

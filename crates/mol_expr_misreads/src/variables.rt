@@ -1,7 +1,7 @@
 //! Locals, parameters and what is outside, by their names (JLS 6.5.2, 6.5.6.1).
 ghost use Rattle.std.specs.Prelude.{◌≡◌, ◌∷◌, [], IfOk, None, OnOk, Some};
 ghost use Rattle.jav_view.specs.OnValues.{outside_value};
-ghost use Rattle.mol_asked.specs.Answers.{target_of};
+ghost use Rattle.mol_instead.specs.Answers.{target_of};
 ghost use Rattle.mol_expr_misreads.specs.Kept.{mode_of};
 ghost use Rattle.mol_expr_misreads.specs.Names.{class_reference, local_reference, local_value, name_reference, param_reference};
 ghost use Rattle.mol_expr_misreads.specs.Noted.{IsRead, note};
@@ -17,8 +17,8 @@ use crate::paths::{outside_reads, path_reads};
 use crate::reads::{name_before_reads, name_reads};
 use crate::spelled::add_name;
 use crate::values::param_value;
-use mol_asked::Target;
 use mol_base::{Id, OutOfMemory, Text};
+use mol_instead::Target;
 use mol_types::StaticType;
 use mol_written::{Importable, Names, TypePlace};
 

@@ -4,7 +4,7 @@ use Rattle.std.specs.List.{flat_map}
 use Rattle.std.specs.Option.{option_and_then, option_to_list}
 use Rattle.jav_view.proofs.Lists.{stands_first, stands_nowhere, stands_where}
 use Rattle.mol_base.specs.declared.ident.Id.{Id}
-use Rattle.mol_expr_misreads.specs.Readings.{program_target}
+use Rattle.mol_misread_faults.specs.Readings.{program_target}
 use Rattle.mol_fault.specs.Kept.{kept_fault}
 use Rattle.mol_fault.specs.declared.fault.Fault.{Fault}
 use Rattle.mol_fault.specs.declared.fault.Fault.TheVariants as faults

@@ -3,7 +3,7 @@ use Rattle.std.specs.Prelude.{ℕ, List, [], ◌++◌, if◌then◌else◌}
 use Rattle.std.specs.List.{flat_map}
 use Rattle.std.specs.Option.{option_to_list}
 use Rattle.mol_misread_faults.specs.Found.{Found, is_name}
-use Rattle.mol_expr_misreads.specs.Noted.{Misreading}
+use Rattle.mol_misread_faults.specs.Noted.{Misreading}
 use Rattle.mol_references.specs.References.{Target}
 use Rattle.mol_spelling.specs.FaultList.{FaultTarget}
 use Rattle.mol_values.specs.declared.cell.Cell.{Cell}

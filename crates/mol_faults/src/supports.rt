@@ -1,7 +1,7 @@
 //! The support of a fault.
 ghost use Rattle.std.specs.Prelude.{◌≡◌, ◌++◌, IfOk, OnOk, map};
 ghost use Rattle.std.specs.Option.{option_to_list};
-ghost use Rattle.mol_expr_misreads.specs.Kept.{kept_misread};
+ghost use Rattle.mol_misread_faults.specs.Kept.{kept_misread};
 ghost use Rattle.mol_fault.specs.Kept.{kept_fault, kept_target};
 ghost use Rattle.mol_faults.specs.Met.{met_among, met_by, met_in};
 ghost use Rattle.mol_misread_faults.specs.Found.{kept_name};
@@ -10,9 +10,8 @@ ghost use Rattle.mol_spelling.specs.Support.{IsSupport};
 ghost use Rattle.mol_support.specs.Met.{kept_met, HasMet};
 
 use mol_base::{List, OutOfMemory};
-use mol_expr_misreads::Misread;
 use mol_fault::{Fault, Target};
-use mol_misread_faults::{MisreadName, misread_names};
+use mol_misread_faults::{Misread, MisreadName, misread_names};
 use mol_support::{Met, support as support_by};
 use mol_table::{Cell, Table};
 use std::alloc::Global;

@@ -1,1 +1,2 @@
+pub use Rattle.mol_stmt.proofs.Outcomes
 pub mod MaybeThere

@@ -1,6 +1,6 @@
 -- What is read of a part that may be missing.
 use Rattle.std.proofs.Common.{◌≡◌, Option, Some, None, option_map, refl, sym, subst}
-use Rattle.mol_expr.proofs.Outcomes.{made_read}
+use Rattle.mol_stmt.proofs.Outcomes.{made_read}
 use Rattle.mol_reads.specs.Reads.{Reads}
 use Rattle.mol_spell.specs.Outcomes.{TreeFault, Outcome, maybe}
 

@@ -1,1 +1,2 @@
+pub use Rattle.mol_body_names.specs.FilePlaces
 pub mod CellUses

@@ -8,13 +8,10 @@ ghost use Rattle.mol_table.specs.Program.{cell};
 ghost use Rattle.mol_values.specs.declared.known.Known.TheVariants as knowns;
 
 use mol_base::{Id, OutOfMemory};
-use mol_body_names::{AllSimple, BodyNames};
-use mol_body_places::Places;
-use mol_body_uses::BodyUses;
+use mol_body_names::{AllSimple, BodyNames, MemberIndex, Places};
+use mol_body_uses::{BodyUses, Uses};
 use mol_class_members::ClassMember;
-use mol_declared::MemberIndex;
 use mol_table::{Cell, Known, Slot, Value};
-use mol_uses::Uses;
 use std::alloc::Global;
 
 /// The source file of a class. `Err` of its calls is want of memory.

@@ -4,11 +4,10 @@ ghost use Rattle.mol_spelling.specs.SimpleNames.{uses_in};
 
 use crate::file_cells::FileCells;
 use mol_base::{Id, OutOfMemory};
-use mol_body_names::AllSimple;
+use mol_body_names::{AllSimple, MemberIndex};
+use mol_body_uses::Uses;
 use mol_class_members::ClassMembers;
-use mol_declared::MemberIndex;
 use mol_table::Slot;
-use mol_uses::Uses;
 use std::alloc::Global;
 
 /// What the names in the source file of a class use where they are printed, in that order, beside members and variables. Files are written of

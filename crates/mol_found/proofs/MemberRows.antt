@@ -12,7 +12,7 @@ use Rattle.mol_members.specs.Rows.{kept_row}
 use Rattle.mol_members.specs.Tables.{row_at}
 use Rattle.mol_members.specs.declared.member_row.MemberRow.{MemberRow}
 use Rattle.mol_members.proofs.RowsViewed.{rows_viewed}
-use Rattle.mol_places.specs.Listings.{HasMember, key_of}
+use Rattle.mol_members.specs.Listings.{HasMember, key_of}
 use Rattle.mol_spell.specs.MemberFaults.{Row}
 use Rattle.mol_spell.proofs.FilesStand.{some-same}
 

@@ -17,7 +17,7 @@ use Rattle.mol_base.specs.declared.ident.Id.{Id}
 use Rattle.mol_found.specs.Found.{Answers, IsConstructor, IsMethod}
 use Rattle.mol_found.specs.declared.found_member.FoundConstructor.TheVariants as constructor
 use Rattle.mol_found.specs.declared.found_member.FoundMethod.{FoundMethod}
-use Rattle.mol_places.specs.Listings.{HasMember}
+use Rattle.mol_members.specs.Listings.{HasMember}
 use Rattle.mol_sources.specs.Sources.{files_of}
 use Rattle.mol_spell.specs.Numbering.{ids_of}
 use Rattle.mol_found.proofs.MemberRows.{declared-there, field-there}

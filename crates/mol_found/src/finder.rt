@@ -6,7 +6,7 @@ ghost use Rattle.jav_view.specs.Views.{ViewDeclaration, ViewField};
 ghost use Rattle.jav_scope.specs.Answers.{declaration_ref, field_ref};
 ghost use Rattle.jav_scope.specs.Entries.{view_in};
 ghost use Rattle.mol_found.specs.Found.{Answers, HasMethod, IsConstructor, IsField, IsMethod, of_object};
-ghost use Rattle.mol_places.specs.Listings.{HasMember};
+ghost use Rattle.mol_members.specs.Listings.{HasMember};
 ghost use Rattle.mol_sources.specs.Sources.{files_of};
 ghost use Rattle.mol_spell.specs.Numbering.{ids_of};
 

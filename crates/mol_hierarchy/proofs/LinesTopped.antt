@@ -11,7 +11,7 @@ use Rattle.std.proofs.lemmas.Map.Views.{Contains-from_any, list_any-from_Contain
 use Rattle.mol_base.specs.Order.{id_cmp-total}
 use Rattle.mol_base.specs.declared.ident.Id.{Id}
 use Rattle.mol_base.specs.declared.memory.OutOfMemory.{OutOfMemory}
-use Rattle.mol_spell.proofs.Stands.{in_place}
+use Rattle.mol_cells.proofs.Stands.{in_place}
 use Rattle.mol_table.proofs.Living.{id_tied, same_id-own}
 use Rattle.mol_table.specs.Heights.{upward}
 use Rattle.mol_table.specs.Program.{Program, same_id}

@@ -10,7 +10,7 @@ use Rattle.jav_view.specs.Ancestors.{Extends, Follows, IsAncestor, Leads}
 use Rattle.jav_view.specs.LookUps.{ancestors, is_ancestor, way}
 use Rattle.jav_view.specs.Views.{class_type, AreOrdered, View, ViewType}
 use Rattle.mol_base.specs.declared.ident.Id.{Id}
-use Rattle.mol_classes.proofs.LivingClasses.{has-is}
+use Rattle.mol_declared.proofs.LivingClasses.{has-is}
 use Rattle.mol_hierarchy.proofs.Following.{further, itself, one-step, stays}
 use Rattle.mol_hierarchy.proofs.OnWays.{on_way-decides}
 use Rattle.mol_hierarchy.specs.Reaching.{Reaches}

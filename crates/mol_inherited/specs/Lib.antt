@@ -1,2 +1,3 @@
+pub use Rattle.mol_declared.specs.Indexed
 pub mod Owners
 pub mod Soughts

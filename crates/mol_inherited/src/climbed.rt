@@ -8,8 +8,7 @@ ghost use Rattle.mol_inherited.specs.Soughts.{found_in_class};
 use crate::sought::{Sought, found_in_class};
 use jav_scope::Found;
 use mol_base::Id;
-use mol_classes::superclass_of;
-use mol_declared::MemberIndex;
+use mol_declared::{MemberIndex, superclass_of};
 
 /// What is looked for, in the nearest class that has it from this class up. The time is that of a look-up in each class on the way.
 pub(crate) fn climbed(members: &MemberIndex<'_>, class: &Id, sought: Sought<'_>) -> Found<Id>

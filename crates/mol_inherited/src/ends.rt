@@ -7,8 +7,7 @@ ghost use Rattle.mol_spell.specs.ProgramViews.{program_view};
 use crate::rules::rules;
 use jav_scope::Found;
 use mol_base::Id;
-use mol_classes::superclass_of;
-use mol_declared::MemberIndex;
+use mol_declared::{MemberIndex, superclass_of};
 
 /// The answer for what no class has from this one up.
 pub(crate) fn not_found(members: &MemberIndex<'_>, class: &Id) -> Found<Id>

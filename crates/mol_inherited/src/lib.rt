@@ -13,4 +13,5 @@ mod supers;
 
 pub use ancestors::is_ancestor;
 pub use members::{field_of, method_of};
+pub use mol_declared::MemberIndex;
 pub use supers::{super_constructor, super_method};

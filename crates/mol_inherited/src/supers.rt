@@ -8,8 +8,7 @@ ghost use Rattle.mol_spell.specs.ProgramViews.{program_view};
 use crate::members::{method_of, or_of_object};
 use jav_scope::{Found, is_object_method};
 use mol_base::{Id, Text};
-use mol_classes::superclass_of;
-use mol_declared::MemberIndex;
+use mol_declared::{MemberIndex, superclass_of};
 
 /// The declaration of a method after `super.` in a class, by its name and number of parameters: that which is nearest from the superclass
 /// up (JLS 15.12.1). Where the superclass is outside, so is the method; where there is none, it is outside if `Object` has it. It takes no

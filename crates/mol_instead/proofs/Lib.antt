@@ -1,3 +1,4 @@
+pub use Rattle.mol_asked.proofs.AnswersTested
 pub mod ClassPaths
 pub mod Members
 pub mod NamesCut

@@ -19,8 +19,8 @@ use Rattle.mol_spell.specs.Readers.{Reader}
 use Rattle.mol_spell.specs.StaticTypes.{field_value}
 use Rattle.mol_spelling.specs.Answers.{field_of, on_value_answer}
 use Rattle.mol_table.specs.Program.{Program}
-use Rattle.mol_variables.specs.Keys.{variable_key}
-use Rattle.mol_variables.specs.declared.variable.Variable.TheVariants as kept
+use Rattle.mol_asked.specs.Keys.{variable_key}
+use Rattle.mol_asked.specs.Variable.TheVariants as kept
 
 -- what has no target of a value here
 pub data IsElse : Option Target → Type 0 where

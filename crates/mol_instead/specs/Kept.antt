@@ -13,10 +13,10 @@ use Rattle.mol_instead.specs.declared.first.First.TheVariants as firsts
 use Rattle.mol_instead.specs.declared.place.InsteadPlace.{InsteadPlace}
 use Rattle.mol_instead.specs.declared.word.Word.{Word}
 use Rattle.mol_instead.specs.declared.word.Word.TheVariants as words
-use Rattle.mol_leftmost.specs.Readings.{IsRead}
-use Rattle.mol_leftmost.specs.declared.reading.FirstType.TheVariants as types
-use Rattle.mol_leftmost.specs.declared.reading.Leftmost.{Leftmost}
-use Rattle.mol_leftmost.specs.declared.reading.Leftmost.TheVariants as answers
+use Rattle.mol_asked.specs.Readings.{IsRead}
+use Rattle.mol_asked.specs.FirstType.TheVariants as types
+use Rattle.mol_asked.specs.Leftmost.{Leftmost}
+use Rattle.mol_asked.specs.Leftmost.TheVariants as answers
 use Rattle.mol_references.specs.References.{Target, field_target, local_target, outside_target, param_target}
 use Rattle.mol_spell.specs.Locals.{Locals}
 use Rattle.mol_spell.specs.Readers.{Reader, place_of}

@@ -5,14 +5,14 @@ ghost use Rattle.jav_view.specs.Leftmost.{Leftmost as Read};
 ghost use Rattle.mol_base.specs.declared.ident.Id.{Id as Identity};
 ghost use Rattle.mol_instead.specs.Kept.{leftmost_of, locals_at, program_at, reader_at, reads_of, IsFirst, IsPlace};
 ghost use Rattle.mol_instead.specs.Reads.{names_read};
-ghost use Rattle.mol_leftmost.specs.Readings.{IsRead};
+ghost use Rattle.mol_asked.specs.Readings.{IsRead};
 
 use crate::class_path::spelled;
 use crate::first::First;
 use crate::place::InsteadPlace;
 use crate::reads::Reads;
+use mol_asked::{Leftmost, leftmost};
 use mol_base::{OutOfMemory, Text};
-use mol_leftmost::{Leftmost, leftmost};
 
 impl<'b> InsteadPlace<'_, '_, 'b> {
     /// What the leftmost of these names reads as.

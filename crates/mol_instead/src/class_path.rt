@@ -3,7 +3,7 @@ ghost use Rattle.std.specs.Prelude.{◌≡◌};
 ghost use Rattle.jav_view.specs.Leftmost.{leftmost_class, Leftmost as Read};
 ghost use Rattle.mol_base.specs.declared.ident.Id.{Id as Identity};
 ghost use Rattle.mol_instead.specs.Kept.{kept_path, leftmost_of};
-ghost use Rattle.mol_leftmost.specs.Readings.{IsRead};
+ghost use Rattle.mol_asked.specs.Readings.{IsRead};
 ghost use Rattle.mol_spell.specs.ReadTrees.{path_by};
 
 use crate::first::First;

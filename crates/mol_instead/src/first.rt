@@ -1,11 +1,10 @@
 //! What the leftmost of several names reads as.
 ghost use Rattle.std.specs.Prelude.{◌≡◌};
 ghost use Rattle.mol_instead.specs.Kept.{leftmost_of};
-ghost use Rattle.mol_leftmost.specs.declared.reading.Leftmost.TheVariants as kept;
+ghost use Rattle.mol_asked.specs.Leftmost.TheVariants as kept;
 
+use mol_asked::{FirstType, Variable};
 use mol_base::{Id, Text};
-use mol_leftmost::FirstType;
-use mol_variables::Variable;
 
 /// What the leftmost of several names reads as (JLS 6.5.2).
 #[derive(Clone, Copy)]

@@ -6,7 +6,7 @@ ghost use Rattle.mol_asked.specs.Answers.{answer_of};
 ghost use Rattle.mol_base.specs.declared.ident.Id.{Id as Identity};
 ghost use Rattle.mol_instead.specs.Kept.{leftmost_of, locals_at, program_at, reader_at, reads_of, IsPlace};
 ghost use Rattle.mol_instead.specs.Reads.{method_read, target_read, Reads as Value};
-ghost use Rattle.mol_leftmost.specs.Readings.{IsRead};
+ghost use Rattle.mol_asked.specs.Readings.{IsRead};
 ghost use Rattle.mol_spelling.specs.ReadInstead.{asked_instead, class_begun};
 ghost use Rattle.mol_spelling.specs.Writers.{path_asked, static_field_asked, static_method_asked};
 

@@ -11,4 +11,5 @@ mod values;
 mod variables;
 mod word;
 
+pub use mol_asked::{Answer, DottedText, MemberIndex, NamePlace, Target, VariablePlace};
 pub use place::InsteadPlace;

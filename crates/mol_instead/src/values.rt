@@ -13,10 +13,9 @@ use crate::place::InsteadPlace;
 use crate::reads::Reads;
 use crate::word::Word;
 use jav_scope::Found;
-use mol_asked::Answer;
+use mol_asked::{Answer, field_of};
 use mol_base::{Id, Text};
 use mol_cells::is_static_field;
-use mol_inherited::field_of;
 use mol_table::{Cell, Slot, Table, Value};
 use mol_types::StaticType;
 

@@ -8,19 +8,19 @@ ghost use Rattle.jav_view.specs.Variables.{Variable as VariableRead};
 ghost use Rattle.mol_base.specs.declared.ident.Id.{Id as Identity};
 ghost use Rattle.mol_instead.specs.Kept.{leftmost_of, locals_at, program_at, reader_at, reads_of};
 ghost use Rattle.mol_instead.specs.Reads.{first_read, local_read, outside_read, param_read, variable_read};
-ghost use Rattle.mol_leftmost.specs.Readings.{IsRead};
+ghost use Rattle.mol_asked.specs.Readings.{IsRead};
 ghost use Rattle.mol_spell.specs.Locals.{Local};
 ghost use Rattle.mol_types.specs.Kept.{view_value};
-ghost use Rattle.mol_variables.specs.Keys.{variable_key};
+ghost use Rattle.mol_asked.specs.Keys.{variable_key};
 
 use crate::first::First;
 use crate::place::InsteadPlace;
 use crate::reads::Reads;
 use crate::values::field_read;
 use crate::word::Word;
+use mol_asked::Variable;
 use mol_base::{OutOfMemory, Text, number_of};
 use mol_types::StaticType;
-use mol_variables::Variable;
 
 impl<'b> InsteadPlace<'_, '_, 'b> {
     /// What the first of several names reads as, as a value.

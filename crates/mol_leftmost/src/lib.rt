@@ -7,4 +7,6 @@ mod reading;
 
 pub use first_types::first_type;
 pub use leftmost_names::leftmost;
+pub use mol_typenames::{ClassFile, TypeReading, superclass_of};
+pub use mol_variables::{MemberIndex, Variable, VariablePlace, field_of, method_of, super_method};
 pub use reading::{FirstType, Leftmost};

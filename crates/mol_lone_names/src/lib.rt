@@ -6,3 +6,5 @@ mod value;
 mod variable;
 
 pub use lone::{name_alone, name_before};
+pub use mol_chains::{Parameter, chain_of};
+pub use mol_found::Finder;

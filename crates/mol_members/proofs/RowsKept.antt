@@ -14,8 +14,8 @@ use Rattle.jav_view.specs.Views.{ViewType}
 use Rattle.jav_scope.specs.declared.source.SourceUnit.{SourceUnit}
 use Rattle.mol_spell.specs.Files.{params_of, place_of_member, type_of_file}
 use Rattle.mol_spell.specs.MemberFaults.{Row, row_of}
-use Rattle.mol_sources.specs.Sources.{file_of, files_of}
-use Rattle.mol_sources.proofs.Sourced.{sources_viewed}
+use Rattle.mol_places.specs.Sources.{file_of, files_of}
+use Rattle.mol_places.proofs.Sourced.{sources_viewed}
 use Rattle.mol_members.specs.Rows.{is_static_member, kept_row, kind_of, name_of, type_at, type_of_member, types_of_params}
 use Rattle.mol_members.specs.Tables.{AreKept, row_at, rows_at}
 use Rattle.mol_members.specs.declared.member_row.MemberRow.{MemberRow}

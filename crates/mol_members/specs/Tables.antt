@@ -7,7 +7,7 @@ use Rattle.jav_scope.specs.declared.found.MemberRef.{MemberRef}
 use Rattle.jav_scope.specs.declared.source.SourceUnit.{SourceUnit}
 use Rattle.mol_spell.specs.MemberFaults.{Row, row_of}
 use Rattle.mol_spell.specs.ResolveFaults.{rows_in}
-use Rattle.mol_sources.specs.Sources.{file_of, files_of}
+use Rattle.mol_places.specs.Sources.{file_of, files_of}
 use Rattle.mol_members.specs.Rows.{kept_row, type_at}
 use Rattle.mol_members.specs.declared.member_row.MemberRow.{MemberRow}
 

@@ -4,11 +4,11 @@ use Rattle.std.proofs.lemmas.Bool.{and_parts}
 use Rattle.std.specs.FinMap.{get}
 use Rattle.std.specs.List.Sorted.{IsStrictlySortedBy}
 use Rattle.jav_view.proofs.Lists.{Decides-fails, Decides-not, stands-mapped, stands_nowhere}
-use Rattle.mol_asked.proofs.AnswersTested.{tested}
-use Rattle.mol_asked.specs.Answers.{is_answer}
+use Rattle.mol_body_misreads.proofs.AnswersTested.{tested}
+use Rattle.mol_body_misreads.specs.Answers.{is_answer}
 use Rattle.mol_base.specs.declared.ident.Id.{Id}
-use Rattle.mol_expr_misreads.specs.Noted.{is_misread, misreading, none_noted, noted_after}
-use Rattle.mol_expr_misreads.specs.Readings.{program_target}
+use Rattle.mol_body_misreads.specs.Noted.{is_misread, misreading, none_noted, noted_after}
+use Rattle.mol_body_misreads.specs.Readings.{program_target}
 use Rattle.mol_fault.specs.OfKind.{AreOfKind}
 use Rattle.mol_misread_faults.proofs.MisreadRows.{IsRow, rows-are, rows-stand}
 use Rattle.mol_misread_faults.proofs.SameRows.{ordered-alike, row_cmp}

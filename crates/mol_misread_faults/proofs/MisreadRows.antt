@@ -1,7 +1,7 @@
 -- What is noted of references are those that are misread, by their places.
 use Rattle.std.proofs.Common.{◌≡◌, ◌⊎◌, inl, inr, ℕ, suc, zero, ◌+◌, Bool, true, false, cond, List, [], ◌∷◌, ◌++◌, Some, Contains, slice_get, refl, sym, ap, ◌∙◌, subst, arith}
 use Rattle.jav_view.proofs.Lists.{stands_first, stands_nowhere, stands_where}
-use Rattle.mol_expr_misreads.specs.Noted.{Misreading, Noted, is_misread, misreading, none_noted, note, noted_after}
+use Rattle.mol_body_misreads.specs.Noted.{Misreading, Noted, is_misread, misreading, none_noted, note, noted_after}
 use Rattle.mol_spell.proofs.Stands.{behind, in_either, in_front}
 use Rattle.mol_spelling.specs.Writers.{Reference, Writer}
 

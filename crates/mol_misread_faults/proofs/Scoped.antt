@@ -5,7 +5,7 @@ use Rattle.jav_view.specs.DottedNames.{Names}
 use Rattle.mol_base.specs.declared.ident.Id.{Id}
 use Rattle.mol_body_misreads.specs.CellPlaces.{IsReadAt, reader_at}
 use Rattle.mol_body_misreads.specs.declared.cell_place.CellPlace.{CellPlace}
-use Rattle.mol_body_names.specs.FilePlaces.{param_names_in, reader_in, writer_of}
+use Rattle.mol_file_uses.specs.FilePlaces.{param_names_in, reader_in, writer_of}
 use Rattle.mol_misread_faults.specs.Scopes.{in_constructor, params_in}
 use Rattle.mol_spell.specs.ProgramReaders.{class_reader, parameter_in}
 use Rattle.mol_spell.specs.Readers.{Parameter, param_names}

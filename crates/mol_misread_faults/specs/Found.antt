@@ -7,9 +7,9 @@ use Rattle.std.specs.Ordering.{eq_by_cmp}
 use Rattle.std.specs.Str.{bytes_eq}
 use Rattle.jav_view.specs.DottedNames.{Names}
 use Rattle.mol_base.specs.declared.ident.Id.{Id}
-use Rattle.mol_expr_misreads.specs.Kept.{kept_misread}
-use Rattle.mol_expr_misreads.specs.Noted.{Misreading, none_noted, noted_after}
-use Rattle.mol_expr_misreads.specs.Readings.{program_target}
+use Rattle.mol_body_misreads.specs.Kept.{kept_misread}
+use Rattle.mol_body_misreads.specs.Noted.{Misreading, none_noted, noted_after}
+use Rattle.mol_body_misreads.specs.Readings.{program_target}
 use Rattle.mol_misread_faults.specs.declared.names.MisreadName.{MisreadName}
 use Rattle.mol_misread_faults.specs.declared.row.Row.{Row}
 use Rattle.mol_misread_faults.specs.declared.row.Named.{Named}

@@ -1,9 +1,9 @@
 //! The cells whose names a file prints.
 ghost use Rattle.std.specs.Prelude.{◌≡◌, ◌++◌, IfOk, OnOk, map};
-ghost use Rattle.mol_body_names.specs.FilePlaces.{writer_of};
+ghost use Rattle.mol_file_uses.specs.FilePlaces.{writer_of};
 ghost use Rattle.mol_class_members.specs.Members.{member_entry};
-ghost use Rattle.mol_expr_misreads.specs.Kept.{kept_misread};
-ghost use Rattle.mol_expr_misreads.specs.Noted.{none_noted, noted_after};
+ghost use Rattle.mol_body_misreads.specs.Kept.{kept_misread};
+ghost use Rattle.mol_body_misreads.specs.Noted.{none_noted, noted_after};
 ghost use Rattle.mol_misread_faults.specs.Found.{cell_misreads, found_at, kept_name, member_misreads, members_misreads};
 ghost use Rattle.mol_spelling.specs.UnitCells.{cell_writer, references_at};
 ghost use Rattle.mol_table.specs.Program.{cell};
@@ -13,11 +13,9 @@ use crate::names::MisreadName;
 use crate::scope::{is_in_constructor, params_in_scope};
 use jav_imports::ImportIndex;
 use mol_base::{Id, OutOfMemory};
-use mol_body_misreads::{BodyReader, CellPlace};
-use mol_body_names::{BodyNames, FileNames};
+use mol_body_misreads::{BodyReader, CellPlace, Misread, Misreads};
 use mol_class_members::ClassMember;
-use mol_declared::MemberIndex;
-use mol_expr_misreads::{Misread, Misreads};
+use mol_file_uses::{BodyNames, FileNames, MemberIndex};
 use mol_table::{Cell, Known, Slot};
 use std::alloc::Global;
 

@@ -10,14 +10,11 @@ use crate::names::MisreadName;
 use crate::names_of_file::NamesOfFile;
 use jav_imports::ImportIndex;
 use mol_base::{Id, OutOfMemory};
-use mol_body_names::FileNames;
 use mol_cells::is_living_class;
 use mol_class_members::ClassMembers;
-use mol_declared::MemberIndex;
-use mol_file_uses::file_uses;
-use mol_simple_names::SimpleNames;
+use mol_file_uses::{FileNames, MemberIndex, file_uses};
+use mol_simple_names::{SimpleNames, Uses};
 use mol_table::Slot;
-use mol_uses::Uses;
 use std::alloc::Global;
 
 /// What is misread in the files of those classes among these identities that live. The index and the members are those of one table.

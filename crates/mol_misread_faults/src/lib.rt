@@ -10,4 +10,5 @@ mod row;
 mod scope;
 
 pub use faults::misread;
+pub use mol_body_misreads::Misread;
 pub use names::{MisreadName, misread_names};

@@ -7,10 +7,10 @@ ghost use Rattle.mol_table.specs.Program.{same_id};
 
 use crate::files::names_in;
 use mol_base::{Id, OutOfMemory, Text};
+use mol_body_misreads::Misread;
 use mol_class_members::ClassMembers;
-use mol_declared::MemberIndex;
-use mol_expr_misreads::Misread;
 use mol_fault::Target;
+use mol_file_uses::MemberIndex;
 use mol_table::{Cell, Table};
 use std::alloc::Global;
 

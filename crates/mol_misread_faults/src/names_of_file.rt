@@ -2,7 +2,7 @@
 ghost use Rattle.mol_simple_names.specs.Named.{simple_in_file};
 
 use mol_base::Text;
-use mol_body_names::FileNames;
+use mol_file_uses::FileNames;
 use mol_simple_names::SimpleNames;
 use mol_written::Importable;
 

@@ -12,8 +12,8 @@ use Rattle.jav_tree.specs.declared.unit.Method.{Method}
 use Rattle.jav_view.specs.UnitViews.{MemberKey, declaration_in}
 use Rattle.jav_view.specs.Views.{View, ViewDeclaration}
 use Rattle.mol_base.specs.declared.ident.Id.{Id}
-use Rattle.mol_numbers.proofs.MemberKeys.{made-there}
-use Rattle.mol_numbers.specs.Members.{HasArity, IsMember}
+use Rattle.mol_type_trees.proofs.MemberKeys.{made-there}
+use Rattle.mol_type_trees.specs.Members.{HasArity, IsMember}
 use Rattle.mol_places.specs.Listings.{key_of}
 use Rattle.mol_sources.proofs.Sourced.{sources_viewed}
 use Rattle.mol_sources.specs.Sources.{files_of}

@@ -7,8 +7,8 @@ use Rattle.jav_tree.specs.declared.types.TypeName.{TypeName}
 use Rattle.jav_tree.specs.declared.unit.Param.{Param}
 use Rattle.jav_view.specs.Views.{ViewType}
 use Rattle.mol_base.specs.declared.ident.Id.{Id}
-use Rattle.mol_chains.specs.InMembers.{view_param}
-use Rattle.mol_chains.specs.declared.parameter.Parameter.{Parameter}
+use Rattle.mol_lone_names.specs.InMembers.{view_param}
+use Rattle.mol_lone_names.specs.Parameter.{Parameter}
 use Rattle.mol_names.specs.Given.{given_param}
 use Rattle.mol_spell.specs.Readers.{Parameter as Seen}
 

@@ -4,7 +4,7 @@ use Rattle.std.proofs.lemmas.Option.{same_Some, slice_get_read, slice_get_within
 use Rattle.jav_scope.specs.declared.found.MemberRef.{MemberRef}
 use Rattle.jav_scope.specs.declared.source.SourceUnit.{SourceUnit}
 use Rattle.jav_tree.specs.declared.unit.Member.{Member}
-use Rattle.mol_numbers.specs.Members.{IsMember}
+use Rattle.mol_type_trees.specs.Members.{IsMember}
 use Rattle.mol_places.specs.Listings.{HasMember, key_of}
 
 pub source-read : (sources : List SourceUnit) (at : MemberRef) (source : SourceUnit) → HasMember sources at

@@ -6,9 +6,9 @@ use Rattle.jav_tree.specs.declared.unit.Param.{Param}
 use Rattle.jav_view.specs.TypeTexts.{type_in}
 use Rattle.jav_view.specs.UnitViews.{classes_of, header_of}
 use Rattle.mol_base.specs.declared.ident.Id.{Id}
-use Rattle.mol_chains.specs.InMembers.{reader_in, view_param}
-use Rattle.mol_chains.specs.declared.parameter.Parameter.{Parameter}
-use Rattle.mol_members.specs.Rows.{type_at}
+use Rattle.mol_lone_names.specs.InMembers.{reader_in, view_param}
+use Rattle.mol_lone_names.specs.Parameter.{Parameter}
+use Rattle.mol_lone_names.specs.Rows.{type_at}
 use Rattle.mol_names.specs.Given.{given_param}
 use Rattle.mol_sources.proofs.Sourced.{sources_viewed}
 use Rattle.mol_sources.specs.Sources.{file_of, files_of}

@@ -1,7 +1,7 @@
 -- Where the names in a member stand.
 use Rattle.std.specs.Prelude.{ℕ}
 use Rattle.jav_view.specs.UnitViews.{MemberKey}
-use Rattle.mol_chains.specs.InMembers.{reader_in}
+use Rattle.mol_lone_names.specs.InMembers.{reader_in}
 use Rattle.mol_names.specs.declared.member_names.MemberNames.{MemberNames}
 use Rattle.mol_spell.specs.Readers.{Reader}
 

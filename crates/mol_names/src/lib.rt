@@ -6,3 +6,5 @@ mod names;
 mod params;
 
 pub use member_names::MemberNames;
+pub use mol_lone_names::Finder;
+pub use mol_type_trees::read_type;

@@ -4,9 +4,8 @@ ghost use Rattle.mol_names.specs.Stands.{Stands};
 use crate::params::{is_constructor, param_ids, parameters, params_of};
 use jav_scope::{MemberRef, SourceUnit};
 use mol_base::OutOfMemory;
-use mol_chains::Parameter;
-use mol_found::Finder;
-use mol_numbers::Numbers;
+use mol_lone_names::{Finder, Parameter};
+use mol_type_trees::Numbers;
 use std::alloc::Global;
 
 /// What names mean in a member of a class of source files, where the parameters of the member are in scope; or outside of its members.

@@ -9,9 +9,8 @@ use mol_accesses::{
     call_here, call_of, call_through, created, field_of, static_field, super_call, super_init,
 };
 use mol_base::{List, OutOfMemory, Text};
-use mol_chains::chain_of;
 use mol_locals::Locals;
-use mol_lone_names::{name_alone, name_before};
+use mol_lone_names::{chain_of, name_alone, name_before};
 use mol_meant::{Meant, ReadType};
 use mol_name_faults::{FaultKind, FirstFault};
 use mol_reads::{Chain, Names};

@@ -3,10 +3,10 @@ ghost use Rattle.std.specs.Prelude.{◌≡◌, ◌<◌, IfOk, Some, length, map,
 ghost use Rattle.std.specs.List.{list_any, zip};
 ghost use Rattle.std.specs.Str.{bytes_eq};
 ghost use Rattle.jav_scope.specs.declared.source.SourceUnit.{SourceUnit};
-ghost use Rattle.mol_chains.specs.InMembers.{view_param};
-ghost use Rattle.mol_members.specs.Rows.{type_at};
+ghost use Rattle.mol_lone_names.specs.InMembers.{view_param};
+ghost use Rattle.mol_lone_names.specs.Rows.{type_at};
 ghost use Rattle.mol_names.specs.Given.{given_param};
-ghost use Rattle.mol_numbers.specs.Members.{IsMember};
+ghost use Rattle.mol_type_trees.specs.Members.{IsMember};
 ghost use Rattle.mol_places.specs.Listings.{key_of};
 ghost use Rattle.mol_sources.specs.Sources.{files_of};
 ghost use Rattle.mol_spell.specs.Files.{declaration_at, files_view, params_of};
@@ -16,8 +16,8 @@ use jav_scope::{MemberRef, Scope};
 use jav_tree::{Member, Param};
 use jav_typenames::seen_type;
 use mol_base::{Id, OutOfMemory, Text, number_of};
-use mol_chains::Parameter;
-use mol_numbers::Numbers;
+use mol_lone_names::Parameter;
+use mol_type_trees::Numbers;
 use std::alloc::Global;
 
 /// Parameters in the file of this number, each with its type and its identity.

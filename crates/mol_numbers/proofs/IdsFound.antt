@@ -9,8 +9,8 @@ use Rattle.jav_scope.specs.Entries.{view_in}
 use Rattle.jav_scope.specs.declared.source.SourceUnit.{SourceUnit}
 use Rattle.mol_table.specs.Renumber.{base_id}
 use Rattle.mol_places.specs.Orders.{numbers_by_path, position}
-use Rattle.mol_sources.specs.Sources.{files_of}
-use Rattle.mol_sources.proofs.Sourced.{sources_viewed}
+use Rattle.mol_places.specs.Sources.{files_of}
+use Rattle.mol_places.proofs.Sourced.{sources_viewed}
 use Rattle.mol_spell.specs.Files.{declaration_at}
 use Rattle.mol_spell.specs.Numbering.{below, ids_by, ids_of, numbered_param, id_by, topmost}
 use Rattle.mol_spell.proofs.Stands.{get-below}

@@ -19,8 +19,8 @@ use Rattle.mol_places.specs.declared.listed.Listed.{Listed}
 use Rattle.mol_places.specs.Orders.{numbers_by_path}
 use Rattle.mol_places.proofs.PathOrder.{all-sorted}
 use Rattle.mol_places.proofs.StableOrder.{AllOf, all-each}
-use Rattle.mol_sources.specs.Sources.{file_of, files_of}
-use Rattle.mol_sources.proofs.Sourced.{file-there, source-there, sources_viewed}
+use Rattle.mol_places.specs.Sources.{file_of, files_of}
+use Rattle.mol_places.proofs.Sourced.{file-there, source-there, sources_viewed}
 use Rattle.mol_spell.specs.Files.{File, Files, declaration_at, files_view, units}
 use Rattle.mol_spell.specs.Numbering.{by_path, member_keys}
 use Rattle.mol_spell.proofs.FilesStand.{IsMade, StandsAt, declaration-made, found-stands, from-keys, key-in_order, made-found, some-same, stands-found}

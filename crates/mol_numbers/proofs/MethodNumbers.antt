@@ -11,7 +11,7 @@ use Rattle.jav_view.specs.Views.{ViewDeclaration, View}
 use Rattle.jav_scope.specs.Entries.{view_in}
 use Rattle.jav_scope.specs.declared.source.SourceUnit.{SourceUnit}
 use Rattle.mol_places.proofs.MemberPlaces.{position-map}
-use Rattle.mol_sources.specs.Sources.{files_of}
+use Rattle.mol_places.specs.Sources.{files_of}
 use Rattle.mol_spell.specs.Files.{declaration_at}
 use Rattle.mol_spell.specs.Numbering.{Numbered, numbered_class, numbered_member, numbered_method, numbered_param, below, numbered_at_key, numbered_in_method, order_by, same_key, same_numbered, topmost}
 use Rattle.mol_spell.proofs.NumbersApart.{key-self}

@@ -16,8 +16,8 @@ use Rattle.mol_places.proofs.FilesInOrder.{order-length, place-within}
 use Rattle.mol_places.proofs.MemberPlaces.{position-front, position-behind, position-map, position-none}
 use Rattle.mol_places.proofs.PathOrder.{all-sorted}
 use Rattle.mol_places.proofs.StableOrder.{AllOf, all-each}
-use Rattle.mol_sources.specs.Sources.{files_of}
-use Rattle.mol_sources.proofs.Sourced.{source-there}
+use Rattle.mol_places.specs.Sources.{files_of}
+use Rattle.mol_places.proofs.Sourced.{source-there}
 use Rattle.mol_spell.specs.Files.{File, declaration_at}
 use Rattle.mol_spell.specs.Numbering.{Numbered, numbered_class, numbered_member, numbered_method, numbered_param, below, by_path, numbered_at_key, numbered_in_method, order_by, same_key, same_numbered, topmost}
 use Rattle.mol_spell.proofs.NumbersApart.{key-is, key-self}

@@ -9,7 +9,7 @@ use Rattle.jav_scope.specs.declared.found.MemberRef.{MemberRef}
 use Rattle.jav_scope.specs.declared.source.SourceUnit.{SourceUnit}
 use Rattle.mol_places.specs.Listings.{key_of, members_in}
 use Rattle.mol_places.specs.Orders.{numbers_by_path}
-use Rattle.mol_sources.specs.Sources.{files_of}
+use Rattle.mol_places.specs.Sources.{files_of}
 use Rattle.mol_spell.specs.Files.{declaration_at}
 use Rattle.mol_spell.specs.Numbering.{keys_in_order, same_key}
 

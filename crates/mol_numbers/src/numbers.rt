@@ -5,7 +5,7 @@ ghost use Rattle.jav_view.specs.UnitViews.{MemberKey};
 ghost use Rattle.jav_view.specs.Views.{ViewDeclaration};
 ghost use Rattle.mol_places.specs.Listings.{HasMember, key_of};
 ghost use Rattle.mol_places.specs.Orders.{numbers_by_path};
-ghost use Rattle.mol_sources.specs.Sources.{files_of};
+ghost use Rattle.mol_places.specs.Sources.{files_of};
 ghost use Rattle.mol_spell.specs.Files.{declaration_at};
 ghost use Rattle.mol_spell.specs.Numbering.{ids_of, same_key, topmost};
 ghost use Rattle.mol_table.specs.Renumber.{base_id};

@@ -1,3 +1,4 @@
+pub use Rattle.mol_sources.proofs.Sourced
 pub mod StableOrder
 pub mod PathOrder
 pub mod OrderPlaces

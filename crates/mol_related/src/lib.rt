@@ -5,4 +5,5 @@ mod class_members;
 mod related;
 mod rows;
 
+pub use mol_members::Members;
 pub use related::Related;

@@ -12,10 +12,10 @@ ghost use Rattle.mol_table.specs.Writes.{AreNew, with_entities};
 use crate::file_reader::FileReader;
 use jav_scope::{Scope, SourceUnit};
 use mol_base::{List, OutOfMemory};
-use mol_members::Members;
 use mol_name_faults::ResolveFault;
 use mol_numbers::Numbers;
 use mol_places::by_path;
+use mol_related::Members;
 use mol_table::{NewEntity, Table};
 use std::alloc::Global;
 

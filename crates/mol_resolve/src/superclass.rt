@@ -12,7 +12,7 @@ use jav_tree::TypeName;
 use mol_base::OutOfMemory;
 use mol_meant::ReadType;
 use mol_name_faults::FirstFault;
-use mol_type_trees::read_type;
+use mol_names::read_type;
 use mol_values::IType;
 
 impl FileReader<'_> {

@@ -1,2 +1,3 @@
+pub use Rattle.mol_uses.specs.Kept
 pub mod Bearers
 pub mod Named

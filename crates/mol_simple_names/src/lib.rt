@@ -6,4 +6,5 @@ mod importables;
 mod imports;
 mod simple_names;
 
+pub use mol_uses::Uses;
 pub use simple_names::SimpleNames;

@@ -1,3 +1,4 @@
+pub use Rattle.mol_expr.proofs.Outcomes
 pub mod AfterElse
 pub mod BlockStatements
 pub mod InTurn

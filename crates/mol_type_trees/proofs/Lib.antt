@@ -1,3 +1,4 @@
+pub use Rattle.mol_numbers.proofs.MemberKeys
 mod NamesTyped
 mod PrimitiveNames
 mod TypesRead

@@ -5,4 +5,5 @@ mod named;
 mod read;
 mod tree;
 
+pub use mol_numbers::Numbers;
 pub use read::read_type;

@@ -6,4 +6,5 @@ mod reading;
 mod simple;
 
 pub use class_file::ClassFile;
+pub use mol_classes::superclass_of;
 pub use reading::TypeReading;

@@ -5,9 +5,8 @@ ghost use Rattle.mol_units.specs.MemberTrees.{param_tree, type_tree, value_tree}
 
 use jav_tree::{Block, Expr, Param as ParamName, TypeName};
 use mol_base::{List, OutOfMemory};
-use mol_bodies::BodyWriter;
+use mol_bodies::{BodyWriter, Places};
 use mol_body_locals::BodyLocals;
-use mol_body_places::Places;
 use mol_values::{IBody, IExpr, IType, Param};
 use std::alloc::Global;
 

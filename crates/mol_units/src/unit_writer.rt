@@ -3,9 +3,8 @@ ghost use Rattle.std.specs.Prelude.{◌≡◌};
 ghost use Rattle.mol_units.specs.Files.{IsFileOf};
 
 use mol_base::Id;
-use mol_body_names::FileNames;
+use mol_body_names::{FileNames, MemberIndex};
 use mol_class_members::ClassMembers;
-use mol_declared::MemberIndex;
 use std::alloc::Global;
 
 /// Writes the source file of a class of a table. `Err` of its calls is want of memory.

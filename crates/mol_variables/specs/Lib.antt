@@ -1,1 +1,2 @@
+pub use Rattle.mol_inherited.specs.Indexed
 pub mod Keys

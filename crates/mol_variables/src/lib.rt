@@ -4,5 +4,6 @@
 mod place;
 mod variable;
 
+pub use mol_inherited::{MemberIndex, field_of, method_of, super_method};
 pub use place::VariablePlace;
 pub use variable::Variable;

@@ -10,8 +10,7 @@ ghost use Rattle.mol_variables.specs.Keys.{found_in, in_scope, place_in, variabl
 use crate::variable::Variable;
 use jav_scope::Found;
 use mol_base::Id;
-use mol_declared::MemberIndex;
-use mol_inherited::field_of;
+use mol_inherited::{MemberIndex, field_of};
 use mol_scope_names::{ParamNames, ScopeNames};
 
 /// A place in a class of a table, which need not live: the locals in scope there, and the parameters of the method or constructor.

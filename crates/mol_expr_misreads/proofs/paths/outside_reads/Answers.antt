@@ -1,7 +1,7 @@
 use Rattle.std.proofs.Common.{[], ◌∷◌, length, None, Some, sym, ap, ◌∙◌}
 use Rattle.std.proofs.lemmas.List.{append-nil}
 use Rattle.std.proofs.lemmas.Result.{IfOk-weaker}
-use Rattle.mol_asked.specs.Answers.{dotted_of, names_in, target_of}
+use Rattle.mol_instead.specs.Answers.{dotted_of, names_in, target_of}
 use Rattle.mol_expr_misreads.proofs.CutNames.{is-some}
 use Rattle.mol_expr_misreads.specs.Readings.{reads_as}
 use Rattle.mol_instead.specs.Kept.{locals_at, reader_at}

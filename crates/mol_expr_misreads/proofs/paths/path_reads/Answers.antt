@@ -1,6 +1,6 @@
 use Rattle.std.proofs.Common.{sym, ap, ◌∙◌}
 use Rattle.std.specs.Option.{option_and_then}
-use Rattle.mol_asked.specs.Answers.{dotted_of, is_answer, target_of}
+use Rattle.mol_instead.specs.Answers.{dotted_of, is_answer, target_of}
 use Rattle.mol_expr_misreads.proofs.NotedMore.{as-instead, as-named}
 use Rattle.mol_expr_misreads.specs.Readings.{program_target}
 use Rattle.mol_instead.specs.Kept.{locals_at}

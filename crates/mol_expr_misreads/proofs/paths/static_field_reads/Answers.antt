@@ -1,7 +1,7 @@
 use Rattle.std.proofs.Common.{◌∙◌, sym, ap, arith}
 use Rattle.std.proofs.lemmas.List.{length-take-le}
 use Rattle.std.specs.Option.{option_and_then}
-use Rattle.mol_asked.specs.Answers.{is_answer, target_of}
+use Rattle.mol_instead.specs.Answers.{is_answer, target_of}
 use Rattle.mol_expr_misreads.proofs.NamesAdded.{front-is, name-is}
 use Rattle.mol_expr_misreads.proofs.NotedMore.{as-instead, as-named}
 use Rattle.mol_expr_misreads.specs.Readings.{program_target}

@@ -1,5 +1,5 @@
 use Rattle.std.proofs.Common.{ap, ◌∙◌}
-use Rattle.mol_asked.specs.Answers.{target_of}
+use Rattle.mol_instead.specs.Answers.{target_of}
 use Rattle.mol_expr_misreads.specs.Readings.{reading}
 use Rattle.mol_expr_misreads.proofs.reads.constructor_reads.Goals as goal
 

@@ -1,5 +1,5 @@
 use Rattle.std.proofs.Common.{◌≡◌, ◌++◌, map}
-use Rattle.mol_expr_misreads.specs.Kept.{kept_misread}
+use Rattle.mol_body_misreads.specs.Kept.{kept_misread}
 use Rattle.mol_misread_faults.proofs.cells.add_names.Given as goal
 use Rattle.mol_misread_faults.specs.Found.{found_at, kept_name}
 

@@ -1,6 +1,6 @@
 use Rattle.std.proofs.Common.{◌∙◌, ap, map}
 use Rattle.mol_misread_faults.proofs.files.add_by_uses.Goals as goal
-use Rattle.mol_uses.specs.Kept.{kept_use}
+use Rattle.mol_simple_names.specs.Kept.{kept_use}
 
 pub add_by_names-requires-clause-names : goal.add_by_names-requires-clause-names
 add_by_names-requires-clause-names c = record {

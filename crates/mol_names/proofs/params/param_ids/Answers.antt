@@ -1,7 +1,7 @@
 use Rattle.std.proofs.Common.{◌∙◌, length, ap}
 use Rattle.std.proofs.lemmas.Result.{IfOk-weaker}
-use Rattle.mol_numbers.proofs.MemberKeys.{has-member}
-use Rattle.mol_numbers.specs.Members.{HasArity}
+use Rattle.mol_type_trees.proofs.MemberKeys.{has-member}
+use Rattle.mol_type_trees.specs.Members.{HasArity}
 use Rattle.mol_names.proofs.DeclaredIds.{ctor-arity, field-ids, ids-declared, method-arity}
 use Rattle.mol_names.proofs.params.param_ids.Goals as goal
 

@@ -1,6 +1,6 @@
 use Rattle.std.proofs.Common.{◌∙◌, map, ap}
-use Rattle.mol_chains.specs.InMembers.{view_param}
-use Rattle.mol_members.specs.Rows.{type_at}
+use Rattle.mol_lone_names.specs.InMembers.{view_param}
+use Rattle.mol_lone_names.specs.Rows.{type_at}
 use Rattle.mol_names.proofs.GivenParams.{given-all, given-more}
 use Rattle.mol_names.proofs.params.parameters.Goals as goal
 

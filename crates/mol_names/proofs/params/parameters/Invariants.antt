@@ -1,8 +1,8 @@
 use Rattle.std.proofs.Common.{◌≡◌, Some, map, slice_get, take}
 use Rattle.std.specs.List.{zip}
 use Rattle.jav_scope.specs.declared.source.SourceUnit.{SourceUnit}
-use Rattle.mol_chains.specs.InMembers.{view_param}
-use Rattle.mol_members.specs.Rows.{type_at}
+use Rattle.mol_lone_names.specs.InMembers.{view_param}
+use Rattle.mol_lone_names.specs.Rows.{type_at}
 use Rattle.mol_names.proofs.params.parameters.Given as goal
 use Rattle.mol_names.specs.Given.{given_param}
 

@@ -1,5 +1,5 @@
 use Rattle.std.proofs.Common.{refl, ap, ◌∙◌}
-use Rattle.mol_asked.specs.Answers.{target_of}
+use Rattle.mol_instead.specs.Answers.{target_of}
 use Rattle.mol_expr_misreads.proofs.ReadHere.{reads-so, text-is}
 use Rattle.mol_expr_misreads.specs.Names.{created_class_reference}
 use Rattle.mol_spelling.specs.Writers.{constructor_asked, text_of}

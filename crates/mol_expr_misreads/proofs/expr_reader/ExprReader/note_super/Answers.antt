@@ -1,6 +1,6 @@
 use Rattle.std.proofs.Common.{refl, ap}
 use Rattle.std.proofs.lemmas.Result.{on_ok_weaker}
-use Rattle.mol_asked.specs.Answers.{target_of}
+use Rattle.mol_instead.specs.Answers.{target_of}
 use Rattle.mol_expr_misreads.proofs.ReadHere.{reads-so}
 use Rattle.mol_spelling.specs.SpelledExpressions.{plain}
 use Rattle.mol_spelling.specs.Writers.{super_constructor_asked}

@@ -1,5 +1,5 @@
 use Rattle.std.proofs.lemmas.Result.{IfOk-weaker}
-use Rattle.mol_expr.proofs.Outcomes.{both_read, made_read}
+use Rattle.mol_stmt.proofs.Outcomes.{both_read, made_read}
 use Rattle.mol_file_members.proofs.member_reader.MemberReader.field.Goals as goal
 use Rattle.mol_member_entities.specs.Headings.{tree_read}
 use Rattle.mol_member_entities.specs.Made as made

@@ -4,7 +4,7 @@ use Rattle.mol_class_members.specs.declared.class_member.ClassMember.{ClassMembe
 use Rattle.mol_file_uses.proofs.MembersUsed.{each-member}
 use Rattle.mol_file_uses.proofs.file_cells.FileCells.add_members.Goals as goal
 use Rattle.mol_file_uses.specs.CellUses.{member_uses}
-use Rattle.mol_uses.proofs.Added.{adds-more, adds-none, adds-whole}
+use Rattle.mol_body_uses.proofs.Added.{adds-more, adds-none, adds-whole}
 
 pub loop-member-init : goal.loop-member-init
 loop-member-init c = adds-none c.args.uses.now _ refl

@@ -2,7 +2,7 @@ use Rattle.std.proofs.Common.{◌≡◌, List, Some, sym, ◌∙◌, ap, subst}
 use Rattle.jav_scope.specs.declared.source.SourceUnit.{SourceUnit}
 use Rattle.mol_members.specs.Rows.{kept_row}
 use Rattle.mol_members.specs.Tables.{row_at}
-use Rattle.mol_places.specs.Listings.{HasMember, key_of}
+use Rattle.mol_members.specs.Listings.{HasMember, key_of}
 use Rattle.mol_sources.specs.Sources.{files_of}
 use Rattle.mol_spell.specs.Numbering.{ids_of}
 use Rattle.mol_found.proofs.MemberRows.{field-key, field-static, field-type}

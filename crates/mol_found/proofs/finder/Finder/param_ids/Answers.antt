@@ -5,7 +5,7 @@ use Rattle.jav_scope.specs.declared.source.SourceUnit.{SourceUnit}
 use Rattle.mol_found.proofs.MemberRows.{declared-key, declared-there}
 use Rattle.mol_found.proofs.finder.Finder.param_ids.Goals as goal
 use Rattle.mol_numbers.proofs.MemberKeys.{there-found}
-use Rattle.mol_places.specs.Listings.{HasMember, key_of}
+use Rattle.mol_members.specs.Listings.{HasMember, key_of}
 use Rattle.mol_sources.specs.Sources.{files_of}
 use Rattle.mol_spell.specs.Files.{declaration_at}
 use Rattle.mol_spell.specs.Numbering.{ids_of}

@@ -1,7 +1,7 @@
 use Rattle.std.proofs.Common.{sym, ap, subst}
 use Rattle.mol_instead.specs.Kept.{leftmost_of, locals_at, reader_at}
 use Rattle.mol_instead.specs.declared.first.First.{First}
-use Rattle.mol_leftmost.specs.Readings.{IsRead}
+use Rattle.mol_asked.specs.Readings.{IsRead}
 use Rattle.mol_spelling.specs.ReadInstead.{class_begun}
 use Rattle.mol_instead.proofs.place.InsteadPlace.class_begun.Goals as goal
 

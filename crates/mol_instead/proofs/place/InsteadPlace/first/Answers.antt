@@ -3,8 +3,8 @@ use Rattle.jav_view.specs.LookUps.{leftmost}
 use Rattle.mol_asked.proofs.PlacesRead.{place-is}
 use Rattle.mol_asked.specs.Places.{program_of, reader_of}
 use Rattle.mol_instead.specs.Kept.{locals_at}
-use Rattle.mol_leftmost.specs.Readings.{IsRead}
-use Rattle.mol_leftmost.specs.declared.reading.Leftmost.TheVariants as answers
+use Rattle.mol_asked.specs.Readings.{IsRead}
+use Rattle.mol_asked.specs.Leftmost.TheVariants as answers
 use Rattle.mol_spell.specs.ProgramViews.{program_view}
 use Rattle.mol_spell.specs.Readers.{place_of}
 use Rattle.mol_instead.proofs.place.InsteadPlace.first.Goals as goal

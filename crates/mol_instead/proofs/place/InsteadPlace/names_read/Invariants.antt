@@ -3,7 +3,7 @@ use Rattle.jav_view.specs.Leftmost.{Leftmost as Read}
 use Rattle.mol_base.specs.declared.ident.Id.{Id}
 use Rattle.mol_instead.specs.Kept.{leftmost_of, locals_at, program_at, reader_at, reads_of}
 use Rattle.mol_instead.specs.Reads.{names_read}
-use Rattle.mol_leftmost.specs.Readings.{IsRead}
+use Rattle.mol_asked.specs.Readings.{IsRead}
 use Rattle.mol_instead.proofs.place.InsteadPlace.names_read.Given as goal
 
 abbrev pub invariant-loop-at : goal.invariant-loop-at

@@ -1,6 +1,6 @@
 use Rattle.std.proofs.Common.{◌∙◌, map, sym, ap}
 use Rattle.std.proofs.lemmas.Result.{on_ok_weaker}
-use Rattle.mol_expr_misreads.specs.Noted.{Noted}
+use Rattle.mol_body_misreads.specs.Noted.{Noted}
 use Rattle.mol_misread_faults.proofs.cells.FileCells.add_cell.Goals as goal
 use Rattle.mol_misread_faults.specs.Found.{found_at, kept_name}
 use Rattle.mol_ordered.proofs.Added.{adds}

@@ -1,6 +1,6 @@
 use Rattle.std.proofs.Common.{◌∙◌, ap, refl}
 use Rattle.std.specs.FinMap.{get}
-use Rattle.mol_expr_misreads.specs.Noted.{noted_after}
+use Rattle.mol_body_misreads.specs.Noted.{noted_after}
 use Rattle.mol_misread_faults.proofs.Scoped.{cell-read}
 use Rattle.mol_misread_faults.proofs.cells.FileCells.misreads_in.Goals as goal
 use Rattle.mol_misread_faults.specs.Scopes.{in_constructor, params_in}

@@ -4,13 +4,13 @@ use Rattle.std.proofs.lemmas.Option.{get_or_from_slice_get}
 use Rattle.jav_scope.specs.declared.source.SourceUnit.{SourceUnit}
 use Rattle.jav_tree.specs.declared.unit.Member.{Member}
 use Rattle.jav_tree.specs.declared.unit.Param.{Param}
-use Rattle.mol_members.specs.Rows.{type_at}
+use Rattle.mol_lone_names.specs.Rows.{type_at}
 use Rattle.mol_names.proofs.DeclaredIds.{found, ids-counted}
 use Rattle.mol_names.proofs.MembersRead.{member-read, source-read}
 use Rattle.mol_names.proofs.ReadersMade.{given-made, reader-made}
 use Rattle.mol_names.proofs.member_names.MemberNames.new.Goals as goal
 use Rattle.mol_names.specs.Given.{given_param}
-use Rattle.mol_numbers.specs.Members.{IsMember}
+use Rattle.mol_type_trees.specs.Members.{IsMember}
 use Rattle.mol_places.specs.Listings.{key_of}
 use Rattle.mol_sources.specs.Sources.{file_of, files_of}
 use Rattle.mol_spell.specs.Files.{params_of, placed}

@@ -1,8 +1,8 @@
 use Rattle.std.proofs.Common.{◌≡◌, ◌∙◌, ◌||◌, List, [], ◌∷◌, bytes_eq, refl, ap}
 use Rattle.std.specs.List.{list_any}
 use Rattle.jav_view.specs.DottedNames.{Name}
-use Rattle.mol_chains.specs.InMembers.{names_of_params}
-use Rattle.mol_chains.specs.declared.parameter.Parameter.{Parameter}
+use Rattle.mol_lone_names.specs.InMembers.{names_of_params}
+use Rattle.mol_lone_names.specs.Parameter.{Parameter}
 use Rattle.mol_names.proofs.names.MemberNamesNames.is_param.Goals as goal
 
 -- a parameter has the name where that is one of their names

@@ -1,7 +1,7 @@
 use Rattle.std.proofs.Common.{◌≡◌, ◌∙◌, ℕ, List, Some, map, slice_get, ap, subst}
 use Rattle.std.proofs.lemmas.Result.{IfOk-weaker}
 use Rattle.jav_scope.specs.declared.source.SourceUnit.{SourceUnit}
-use Rattle.mol_chains.specs.InMembers.{view_param}
+use Rattle.mol_lone_names.specs.InMembers.{view_param}
 use Rattle.mol_meant.specs.Kept.{view_reading}
 use Rattle.mol_names.proofs.TypesRead.{type-read}
 use Rattle.mol_names.proofs.names.MemberNamesNames.read_type.Goals as goal

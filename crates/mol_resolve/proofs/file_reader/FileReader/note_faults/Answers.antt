@@ -1,6 +1,6 @@
 use Rattle.std.proofs.Common.{◌∙◌, ℕ, List, ap, filter, flat_map, slice_get}
 use Rattle.jav_scope.specs.declared.source.SourceUnit.{SourceUnit}
-use Rattle.mol_expr.proofs.Outcomes.{noted_on}
+use Rattle.mol_file_members.proofs.Outcomes.{noted_on}
 use Rattle.mol_name_faults.specs.First.{all_noted}
 use Rattle.mol_resolve.proofs.file_reader.FileReader.note_faults.Goals as goal
 use Rattle.mol_sources.specs.Sources.{file_of, files_of}

@@ -1,6 +1,6 @@
 use Rattle.std.proofs.Common.{◌∙◌, List, ap, option_map, refl, slice_get, subst}
 use Rattle.jav_scope.specs.declared.source.SourceUnit.{SourceUnit}
-use Rattle.mol_expr.proofs.Outcomes.{made_read}
+use Rattle.mol_file_members.proofs.Outcomes.{made_read}
 use Rattle.mol_meant.specs.Kept.{view_reading}
 use Rattle.mol_member_entities.specs.Headings.{tree_in, tree_read}
 use Rattle.mol_file_members.proofs.MaybeThere.{none-read, some-read}
