@@ -10,8 +10,8 @@ use Rattle.mol_base.specs.Limits.{max_items}
 use Rattle.mol_lines.specs.Objects.{texts_data}
 use Rattle.mol_lines.specs.Reader.{object_from, id_from, texts_from}
 use Rattle.mol_lines.proofs.ReaderFound.{step, kept_is, whole_found, pure_is, text_found, texts_found, id_found}
-use Rattle.mol_table.specs.TokenForms.{is_name, is_filler, are_comments}
-use Rattle.mol_table.specs.Words.{are_words}
+use Rattle.mol_token_forms.specs.TokenForms.{is_name, is_filler, are_comments}
+use Rattle.mol_token_forms.specs.Words.{are_words}
 use Rattle.mol_values.specs.declared.kind.MethodKind.{MethodKind}
 use Rattle.mol_values.specs.declared.kind.MethodKind.TheVariants.{Instance, Static}
 use Rattle.mol_values.specs.declared.words.Notes.{Notes}

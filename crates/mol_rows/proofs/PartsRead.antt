@@ -9,8 +9,8 @@ use Rattle.mol_base.proofs.Tags.{both_true}
 use Rattle.mol_lines.specs.Objects.{items, texts_data}
 use Rattle.mol_lines.specs.Reader.{part, and_then, kept, object_from}
 use Rattle.mol_lines.proofs.ReaderRead.{id_read, texts_read}
-use Rattle.mol_table.specs.TokenForms.{is_name, is_filler, are_comments, is_empty}
-use Rattle.mol_table.specs.Words.{are_words}
+use Rattle.mol_token_forms.specs.TokenForms.{is_name, is_filler, are_comments, is_empty}
+use Rattle.mol_token_forms.specs.Words.{are_words}
 use Rattle.mol_values.specs.declared.kind.MethodKind.{MethodKind}
 use Rattle.mol_values.specs.declared.kind.MethodKind.TheVariants.{Instance, Static, Constructor}
 use Rattle.mol_values.specs.declared.words.Notes.{Notes}

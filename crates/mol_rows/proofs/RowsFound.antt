@@ -6,8 +6,8 @@ use Rattle.serde_json.specs.Data.{Data, string, object, Members, no_members}
 use Rattle.mol_base.specs.Modifiers.{class_words, field_words, kept_words, constructor_words}
 use Rattle.mol_base.specs.Spelled.{is_id, is_stamp}
 use Rattle.mol_base.specs.declared.ident.Id.{Id}
-use Rattle.mol_table.specs.TokenForms.{is_name, is_dotted}
-use Rattle.mol_table.specs.Words.{are_words}
+use Rattle.mol_token_forms.specs.TokenForms.{is_name, is_dotted}
+use Rattle.mol_token_forms.specs.Words.{are_words}
 use Rattle.mol_values.specs.declared.kind.MethodKind.{MethodKind}
 use Rattle.mol_values.specs.declared.words.Notes.{Notes}
 use Rattle.mol_values.specs.declared.words.Words.{Words}

@@ -5,8 +5,8 @@ use Rattle.mol_base.proofs.Tags.{both_true}
 use Rattle.mol_base.specs.Modifiers.{class_words, field_words, kept_words, constructor_words}
 use Rattle.mol_base.specs.Spelled.{is_id, is_stamp}
 use Rattle.mol_base.specs.declared.ident.Stamp.{Stamp}
-use Rattle.mol_table.specs.TokenForms.{is_name, is_dotted}
-use Rattle.mol_table.specs.Words.{are_words}
+use Rattle.mol_token_forms.specs.TokenForms.{is_name, is_dotted}
+use Rattle.mol_token_forms.specs.Words.{are_words}
 use Rattle.mol_lines.specs.Reader.{part, and_then}
 use Rattle.mol_lines.proofs.ReaderRead.{id_read, stamp_read, texts_read, maybe_read}
 use Rattle.mol_rows.specs.RowReader.{recorded_from, recorded_of}

@@ -7,8 +7,8 @@ use Rattle.mol_base.specs.Modifiers.{class_words, field_words, method_words, abs
 use Rattle.mol_base.specs.declared.modifier.Modified.{Modified}
 use Rattle.mol_base.specs.declared.modifier.Modified.TheVariants as of
 use Rattle.mol_base.specs.Spelled.{is_id}
-use Rattle.mol_table.specs.TokenForms.{is_name, is_dotted, is_filler, are_comments, is_empty}
-use Rattle.mol_table.specs.Words.{are_words}
+use Rattle.mol_token_forms.specs.TokenForms.{is_name, is_dotted, is_filler, are_comments, is_empty}
+use Rattle.mol_token_forms.specs.Words.{are_words}
 use Rattle.mol_values.specs.declared.kind.MethodKind.{MethodKind}
 use Rattle.mol_values.specs.declared.kind.MethodKind.TheVariants.{Constructor}
 use Rattle.mol_values.specs.declared.words.Notes.{Notes}

@@ -9,8 +9,8 @@ use Rattle.mol_base.specs.Modifiers.{class_words, field_words, kept_words, const
 use Rattle.mol_base.specs.declared.ident.Id.{Id}
 use Rattle.mol_base.specs.declared.ident.Stamp.{Stamp}
 use Rattle.mol_lines.specs.Reader.{Reader, ◌>>=◌, pure, part, kept, object_from, id_from, stamp_from, same_from, texts_from, maybe_from}
-use Rattle.mol_table.specs.TokenForms.{is_name, is_dotted, is_filler, are_comments}
-use Rattle.mol_table.specs.Words.{are_words}
+use Rattle.mol_token_forms.specs.TokenForms.{is_name, is_dotted, is_filler, are_comments}
+use Rattle.mol_token_forms.specs.Words.{are_words}
 use Rattle.mol_values.specs.declared.kind.MethodKind.{MethodKind}
 use Rattle.mol_values.specs.declared.kind.MethodKind.TheVariants.{Instance, Static}
 use Rattle.mol_values.specs.declared.words.Notes.{Notes}

@@ -1,12 +1,12 @@
 //! Which texts a row may have.
 ghost use Rattle.std.specs.Prelude.{◌≡◌, ◌≢◌, ◌==◌, ◌&&◌, drop};
 ghost use Rattle.mol_base.specs.Lexical.Characters.{first};
-ghost use Rattle.mol_table.specs.TokenForms as spec;
-ghost use Rattle.mol_table.specs.Words.{are_words as are_words_of};
+ghost use Rattle.mol_token_forms.specs.TokenForms as spec;
+ghost use Rattle.mol_token_forms.specs.Words.{are_words as are_words_of};
 ghost use Rattle.mol_rows.specs.RowForms.{words_before};
 
 use mol_base::{Modified, Text, are_in_order};
-use mol_table::{is_comment, is_literal};
+use mol_token_forms::{is_comment, is_literal};
 
 /// Whether the bytes are a literal, or `-` and a number.
 pub fn is_filler(bytes: &[u8]) -> bool

@@ -4,8 +4,8 @@
 ghost use Rattle.std.specs.Prelude.{◌≡◌, ◌≢◌, Some, codes, option_map};
 ghost use Rattle.serde_json.specs.View.{view, items_view};
 ghost use Rattle.mol_lines.specs.Reader.{Gives, Reads, kept, members_left, object_from, part};
-ghost use Rattle.mol_table.specs.TokenForms.{are_comments as are_comments_of};
-ghost use Rattle.mol_table.specs.Words.{are_words as are_words_of};
+ghost use Rattle.mol_token_forms.specs.TokenForms.{are_comments as are_comments_of};
+ghost use Rattle.mol_token_forms.specs.Words.{are_words as are_words_of};
 ghost use Rattle.mol_rows.specs.RowForms.{words_before};
 ghost use Rattle.mol_rows.specs.RowReader as reader;
 
@@ -13,7 +13,7 @@ use crate::ParamRow;
 use crate::forms::{are_comments, are_words, is_filler};
 use mol_base::{List, MAX_ITEMS, Modified, Text};
 use mol_lines::{Members, ObjectFault, items};
-use mol_table::{is_dotted, is_name};
+use mol_token_forms::{is_dotted, is_name};
 use mol_values::{MethodKind, Notes, Words};
 use serde_json::Value;
 use std::alloc::Global;

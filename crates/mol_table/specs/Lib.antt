@@ -1,3 +1,5 @@
+pub use Rattle.mol_token_forms.specs.TokenForms
+pub use Rattle.mol_token_forms.specs.Words
 pub mod Agreement
 pub mod Ancestors
 pub mod Bare
@@ -20,9 +22,7 @@ pub mod Sameness
 pub mod StatementForms
 pub mod Tidy
 pub mod Tidying
-pub mod TokenForms
 pub mod Tops
 pub mod TypeForms
 pub mod Values
-pub mod Words
 pub mod Writes

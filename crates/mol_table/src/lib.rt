@@ -7,12 +7,11 @@ mod maps;
 mod renumber;
 mod table;
 mod tidy;
-mod token_form;
 
 pub use entity::NewEntity;
+pub use mol_token_forms::{is_comment, is_dotted, is_literal, is_name};
 pub use mol_values::{
     Argument, Cell, IBlock, IBody, IDeclarator, IElse, IExpr, IForStart, IIf, ILet, IStmt,
     IStmtNode, IType, Kind, Known, MethodKind, Notes, Param, Slot, Value, Words,
 };
 pub use table::Table;
-pub use token_form::{is_comment, is_dotted, is_literal, is_name};

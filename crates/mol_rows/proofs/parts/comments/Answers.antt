@@ -3,7 +3,7 @@ use Rattle.mol_lines.specs.Reader.{passing, texts_from}
 use Rattle.mol_lines.specs.declared.object_fault.ObjectFault.TheVariants.{WrongForm}
 use Rattle.mol_lines.proofs.Refused.{reads_err}
 use Rattle.mol_lines.proofs.Taken.{reads_and, part_and_without, passes, fails}
-use Rattle.mol_table.specs.TokenForms.{are_comments}
+use Rattle.mol_token_forms.specs.TokenForms.{are_comments}
 use Rattle.mol_rows.proofs.parts.comments.Goals as goal
 
 pub returns-in_err-texts : goal.returns-in_err-texts

@@ -4,7 +4,7 @@ use Rattle.mol_lines.specs.Reader.{passing}
 use Rattle.mol_lines.specs.declared.object_fault.ObjectFault.TheVariants.{WrongForm}
 use Rattle.mol_lines.proofs.Refused.{reads_err}
 use Rattle.mol_lines.proofs.Taken.{reads_and, part_and_without, passes, fails}
-use Rattle.mol_table.specs.TokenForms.{is_filler}
+use Rattle.mol_token_forms.specs.TokenForms.{is_filler}
 use Rattle.mol_rows.proofs.parts.filler.Goals as goal
 
 pub returns-in_err-text : goal.returns-in_err-text

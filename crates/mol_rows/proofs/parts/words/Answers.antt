@@ -4,7 +4,7 @@ use Rattle.mol_lines.specs.Reader.{texts_from}
 use Rattle.mol_lines.specs.declared.object_fault.ObjectFault.TheVariants.{WrongForm}
 use Rattle.mol_lines.proofs.Refused.{reads_err}
 use Rattle.mol_lines.proofs.Taken.{reads_and, part_and_without}
-use Rattle.mol_table.specs.Words.{are_words}
+use Rattle.mol_token_forms.specs.Words.{are_words}
 use Rattle.mol_rows.specs.RowForms.{words_before}
 use Rattle.mol_rows.specs.RowReader.{words_of, words_made}
 use Rattle.mol_rows.proofs.parts.words.Goals as goal

@@ -17,7 +17,7 @@ use Rattle.mol_base.specs.Lexical.Names.{is_start, is_part, keywords, word_liter
 use Rattle.mol_base.specs.Lexical.Tokens.{IsOneToken}
 use Rattle.mol_base.specs.ReservedWords.{is_reserved}
 use Rattle.mol_base.specs.declared.token_kind.TokenKind.TheVariants.{Word}
-use Rattle.mol_table.specs.TokenForms.{is_word_kind, is_name}
+use Rattle.mol_token_forms.specs.TokenForms.{is_word_kind, is_name}
 use Rattle.unicode_ident.specs.Ident.{is_xid_start}
 use Rattle.unicode_ident.proofs.IdentLemmas.{is_xid_start-ascii, is_xid_continue-ascii}
 

@@ -1,8 +1,8 @@
 use Rattle.std.proofs.Common.{nat_eq, rules}
 use Rattle.std.proofs.lemmas.Iterator.Search.{all_from_yields_List}
 use Rattle.std.proofs.lemmas.Iterator.Splits.{YieldsList-from_slice_split}
-use Rattle.mol_table.specs.TokenForms.{is_name}
-use Rattle.mol_table.proofs.token_form.is_dotted.Goals as goal
+use Rattle.mol_token_forms.specs.TokenForms.{is_name}
+use Rattle.mol_token_forms.proofs.token_form.is_dotted.Goals as goal
 
 pub returns : goal.returns
 returns c =

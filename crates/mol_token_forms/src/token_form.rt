@@ -1,6 +1,6 @@
 //! Which words a tree may keep as they are: names, literals and comments.
 ghost use Rattle.std.specs.Prelude.{◌≡◌};
-ghost use Rattle.mol_table.specs.TokenForms as spec;
+ghost use Rattle.mol_token_forms.specs.TokenForms as spec;
 
 use mol_base::{TokenKind, text_kind};
 

@@ -1,0 +1,2 @@
+pub mod TokenForms
+pub mod Words
