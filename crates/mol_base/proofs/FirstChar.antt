@@ -53,3 +53,8 @@ first_char-ascii b bs low =
     let front : take (width b) (b ∷ bs) ≡ b ∷ [] = ap (λ n. take n (b ∷ bs)) one in
     let text : IsUtf8 (take (width b) (b ∷ bs)) = subst IsUtf8 (sym front) (IsUtf8-from_ascii (b ∷ []) ascii) in
     first_char-is (b ∷ bs) (omega arith) text ∙ ap (λ xs. slice_get (chars xs) 0) front ∙ ap (λ xs. slice_get xs 0) (chars-IsAscii (b ∷ []) ascii)
+
+-- so the first of some bytes is the first character, where it is below 128
+pub first_char-low : (bytes : List ℕ) → 1 ≤ length bytes → first bytes < 128 → first_char bytes ≡ Some (first bytes)
+first_char-low [] some low = absurd (omega (arith, some))
+first_char-low (b ∷ bs) some low = first_char-ascii b bs low

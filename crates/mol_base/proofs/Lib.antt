@@ -11,6 +11,7 @@ pub mod Fronts
 pub mod Identities
 pub mod Inside
 pub mod IsReserved
+pub mod Keywords
 pub mod LexicalExamples
 pub mod LineCounts
 pub mod Longest
@@ -31,6 +32,7 @@ pub mod Sources
 pub mod Spelled
 pub mod Symbols
 pub mod Tags
+pub mod Texts
 pub mod TokenExamples
 pub mod Whole
 pub mod Words

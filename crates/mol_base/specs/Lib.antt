@@ -13,5 +13,6 @@ pub mod Source
 pub mod Spelled
 pub mod Tag
 pub mod TagFault
+pub mod Texts
 pub mod Token
 pub mod formers

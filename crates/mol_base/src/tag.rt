@@ -152,6 +152,10 @@ impl Ord for Tag {
     ghost matches_eq = { Prim.search (comparing, rules) };
 
     fn cmp(&self, other: &Tag) -> Ordering {
+        // those of a base, as most are, have no bytes to compare
+        if self.len == 0 && other.len == 0 {
+            return Ordering::Equal;
+        }
         self.bytes().cmp(other.bytes())
     }
 }

@@ -1,5 +1,5 @@
 //! A text, seen as its bytes.
-ghost use Rattle.std.specs.Prelude.{◌≡◌, ◌≢◌, ◌<◌, ◌^◌, [], length, IfOk, IfErr, string_bytes, IsUtf8, ◌==◌};
+ghost use Rattle.std.specs.Prelude.{◌≡◌, ◌≢◌, ◌<◌, ◌≤◌, ◌^◌, [], length, IfOk, IfErr, IfSome, string_bytes, IsUtf8, ◌==◌};
 ghost use Rattle.std.specs.Str.Lossy.{utf8_valid_len};
 ghost use Rattle.std.proofs.Common.{rules};
 ghost use Rattle.std.specs.Cmp.{partial_order_from_own_ties};
@@ -11,24 +11,36 @@ ghost use Rattle.std.specs.Ordering.{nat_cmp, as_partial_cmp};
 use crate::OutOfMemory;
 use std::alloc::{AllocError, Global};
 use std::cmp::Ordering;
+use std::fmt::{self, Debug, Formatter};
 use std::hash::{Hash, Hasher};
 use std::marker::Model;
 
+/// The most bytes that a text holds in place.
+const MOST_IN_PLACE: usize = 15;
+
 /// Bytes that are UTF-8. Contracts see the list of the bytes.
-#[derive(Debug, Drop)]
+///
+/// A text of at most 15 bytes, as most names are, takes no memory besides itself: it is `short`, and nothing is `long`.
+#[derive(Drop)]
 pub struct Text {
-    chars: String,
+    short: [u8; MOST_IN_PLACE],
+    /// How many bytes of `short` are the text's, from the first on.
+    len: u8,
+    long: String,
 }
 
 impl Model for Text {
     ghost use Rattle.std.specs.Prelude.{List, ℕ, string_bytes};
     ghost use Rattle.std.specs.Coded.{coded_list, coded_ℕ};
+    ghost use Rattle.mol_base.specs.Texts.{IsHeld, held};
 
     ghost Value = { List ℕ };
 
     ghost coded = { coded_list coded_ℕ };
 
-    ghost view = { λ text. string_bytes text.chars };
+    ghost view = { λ text. held text.short text.len (string_bytes text.long) };
+
+    ghost invariant = { λ text. IsHeld text.short text.len (string_bytes text.long) };
 }
 
 /// Why bytes are no text.
@@ -64,9 +76,10 @@ impl Text {
             ¬ (IsUtf8 bytes.now) × (fault ≡ TextFault.NotUtf8 (utf8_valid_len bytes.now))) }
     {
         match std::str::from_utf8(bytes) {
-            Ok(chars) => Ok(Text {
-                chars: String::from_str(alloc, chars)?,
-            }),
+            Ok(chars) => match Text::from_str(alloc, chars) {
+                Ok(text) => Ok(text),
+                Err(OutOfMemory) => Err(TextFault::OutOfMemory),
+            },
             Err(fault) => Err(TextFault::NotUtf8(fault.valid_up_to() as u32)),
         }
     }
@@ -75,25 +88,42 @@ impl Text {
     pub fn from_str(alloc: Global, chars: &str) -> Result<Text, OutOfMemory>
         ensures { IfOk result (λ text. text ≡ chars.now) }
     {
-        Ok(Text {
-            chars: String::from_str(alloc, chars)?,
-        })
+        if chars.len() > MOST_IN_PLACE {
+            return Ok(Text::from_string(String::from_str(alloc, chars)?));
+        }
+        Ok(Text::in_place(alloc, chars))
     }
 
     /// The text of a `String`, which goes in whole. It takes no memory.
     pub fn from_string(chars: String) -> Text
         ensures { result ≡ string_bytes chars }
     {
-        Text { chars }
+        Text {
+            short: [0; MOST_IN_PLACE],
+            len: 0,
+            long: chars,
+        }
+    }
+
+    /// A text that equals a `str` of few bytes, held in place.
+    fn in_place(alloc: Global, chars: &str) -> Text
+        requires { length chars.now ≤ 15 }
+        ensures { result ≡ chars.now }
+    {
+        let mut short = [0; MOST_IN_PLACE];
+        short[..chars.len()].copy_from_slice(chars.as_bytes());
+        Text {
+            short,
+            len: chars.len() as u8,
+            long: String::new(alloc),
+        }
     }
 
     /// The text without bytes. It takes no memory.
     pub fn empty(alloc: Global) -> Text
         ensures { result ≡ [] }
     {
-        Text {
-            chars: String::new(alloc),
-        }
+        Text::from_string(String::new(alloc))
     }
 
     /// The bytes. It takes no memory.
@@ -101,21 +131,38 @@ impl Text {
         ensures bytes { result.now ≡ self.now }
         ensures utf8 { IsUtf8 self.now }
     {
-        self.chars.as_bytes()
+        if self.long.is_empty() {
+            &self.short[..self.len as usize]
+        } else {
+            self.long.as_bytes()
+        }
     }
 
     /// The bytes as a `str`. It takes no memory.
     pub fn as_str(&self) -> &str
         ensures { result.now ≡ self.now }
     {
-        self.chars.as_str()
+        unsafe { std::str::from_utf8_unchecked(self.bytes()) }
     }
 
     /// A text that equals this one.
     pub fn copy(&self, alloc: Global) -> Result<Text, OutOfMemory>
         ensures { IfOk result (λ copy. copy ≡ self.now) }
     {
-        Text::from_str(alloc, self.chars.as_str())
+        if self.long.is_empty() {
+            return Ok(Text {
+                short: self.short,
+                len: self.len,
+                long: String::new(alloc),
+            });
+        }
+        Text::from_str(alloc, self.as_str())
+    }
+}
+
+impl Debug for Text {
+    fn fmt<W: fmt::Write>(&self, f: &mut Formatter<W>) -> fmt::Result {
+        f.write_str(self.as_str())
     }
 }
 
@@ -125,7 +172,7 @@ impl PartialEq for Text {
     ghost laws = { Prim.search (comparing, rules) };
 
     fn eq(&self, other: &Text) -> bool {
-        self.chars == other.chars
+        self.bytes() == other.bytes()
     }
 }
 
@@ -144,7 +191,7 @@ impl Ord for Text {
     ghost matches_eq = { Prim.search (comparing, rules) };
 
     fn cmp(&self, other: &Text) -> Ordering {
-        self.chars.cmp(&other.chars)
+        self.bytes().cmp(other.bytes())
     }
 }
 

@@ -48,8 +48,18 @@ pub fn width(byte: u8) -> usize
 }
 
 /// The character whose UTF-8 begins the bytes: none where they begin with no well-formed sequence.
-#[tactic(auto, unfolding(crate::specs::Lexical::Characters::first_char))]
 pub fn first_char(bytes: &[u8]) -> Option<char>
+    ensures { result ≡ spec.first_char bytes.now }
+{
+    match bytes {
+        [first, ..] if first.is_ascii() => Some(char::from(*first)),
+        _ => first_decoded(bytes),
+    }
+}
+
+/// The first character, decoded.
+#[tactic(auto, unfolding(crate::specs::Lexical::Characters::first_char))]
+fn first_decoded(bytes: &[u8]) -> Option<char>
     ensures { result ≡ spec.first_char bytes.now }
 {
     let width = width(byte_at(bytes, 0));

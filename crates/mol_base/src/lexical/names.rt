@@ -90,66 +90,56 @@ fn word_kind(name: &[u8]) -> TokenKind
     }
 }
 
-const KEYWORDS: [&[u8]; 50] = [
-    b"abstract",
-    b"assert",
-    b"boolean",
-    b"break",
-    b"byte",
-    b"case",
-    b"catch",
-    b"char",
-    b"class",
-    b"const",
-    b"continue",
-    b"default",
-    b"do",
-    b"double",
-    b"else",
-    b"enum",
-    b"extends",
-    b"final",
-    b"finally",
-    b"float",
-    b"for",
-    b"goto",
-    b"if",
-    b"implements",
-    b"import",
-    b"instanceof",
-    b"int",
-    b"interface",
-    b"long",
-    b"native",
-    b"new",
-    b"package",
-    b"private",
-    b"protected",
-    b"public",
-    b"return",
-    b"short",
-    b"static",
-    b"strictfp",
-    b"super",
-    b"switch",
-    b"synchronized",
-    b"this",
-    b"throw",
-    b"throws",
-    b"transient",
-    b"try",
-    b"void",
-    b"volatile",
+/// The keywords, by the number of their bytes.
+const KEYWORDS_2: [&[u8]; 2] = [b"do", b"if"];
+
+const KEYWORDS_3: [&[u8]; 4] = [b"for", b"int", b"new", b"try"];
+
+const KEYWORDS_4: [&[u8]; 9] = [
+    b"byte", b"case", b"char", b"else", b"enum", b"goto", b"long", b"this", b"void",
+];
+
+const KEYWORDS_5: [&[u8]; 10] = [
+    b"break", b"catch", b"class", b"const", b"final", b"float", b"short", b"super", b"throw",
     b"while",
 ];
 
+const KEYWORDS_6: [&[u8]; 9] = [
+    b"assert", b"double", b"import", b"native", b"public", b"return", b"static", b"switch",
+    b"throws",
+];
+
+const KEYWORDS_7: [&[u8]; 6] = [
+    b"boolean", b"default", b"extends", b"finally", b"package", b"private",
+];
+
+const KEYWORDS_8: [&[u8]; 4] = [b"abstract", b"continue", b"strictfp", b"volatile"];
+
+const KEYWORDS_9: [&[u8]; 3] = [b"interface", b"protected", b"transient"];
+
+const KEYWORDS_10: [&[u8]; 2] = [b"implements", b"instanceof"];
+
+const KEYWORDS_12: [&[u8]; 1] = [b"synchronized"];
+
 const WORD_LITERALS: [&[u8]; 3] = [b"true", b"false", b"null"];
 
-#[tactic(auto, unfolding(crate::specs::Lexical::Names::is_keyword, crate::specs::Lexical::Names::keywords))]
+/// Whether the bytes are a keyword: those of their length alone are compared.
 pub fn is_keyword(name: &[u8]) -> bool
     ensures { result ≡ spec.is_keyword name.now }
 {
-    is_one_of(name, &KEYWORDS)
+    match name.len() {
+        2 => is_one_of(name, &KEYWORDS_2),
+        3 => is_one_of(name, &KEYWORDS_3),
+        4 => is_one_of(name, &KEYWORDS_4),
+        5 => is_one_of(name, &KEYWORDS_5),
+        6 => is_one_of(name, &KEYWORDS_6),
+        7 => is_one_of(name, &KEYWORDS_7),
+        8 => is_one_of(name, &KEYWORDS_8),
+        9 => is_one_of(name, &KEYWORDS_9),
+        10 => is_one_of(name, &KEYWORDS_10),
+        12 => is_one_of(name, &KEYWORDS_12),
+        _ => false,
+    }
 }
 
 #[tactic(auto, unfolding(crate::specs::Lexical::Names::is_word_literal, crate::specs::Lexical::Names::word_literals))]
