@@ -11,7 +11,7 @@ ghost use Rattle.jav_lex.specs.Fault.{IsFirstFault, of_characters as fault_of_ch
 
 use crate::{LexFault, Token};
 use mol_base::lexical::{Front, before_unicode_escape, front_of};
-use mol_base::{List, OutOfMemory, Text, TextFault, TokenKind};
+use mol_base::{List, OutOfMemory, Text, TokenKind};
 use std::alloc::Global;
 
 /// How many bytes of a source stand before its first ill-formed sequence: all where there is none.
@@ -40,16 +40,13 @@ fn token_at(
     requires text { IsUtf8 (take (end - start) (drop start bytes.now)) }
     ensures { IfOk result (λ t. seen t ≡ record { kind = kind; text = take (end - start) (drop start bytes.now); start = start; end = end }) }
 {
-    match Text::from_bytes(alloc, &bytes[start..end]) {
-        Ok(text) => Ok(Token {
-            kind,
-            text,
-            start: start as u32,
-            end: end as u32,
-        }),
-        Err(TextFault::OutOfMemory) => Err(OutOfMemory),
-        Err(TextFault::NotUtf8(_)) => unreachable!(),
-    }
+    let text = unsafe { std::str::from_utf8_unchecked(&bytes[start..end]) };
+    Ok(Token {
+        kind,
+        text: Text::from_str(alloc, text)?,
+        start: start as u32,
+        end: end as u32,
+    })
 }
 
 /// What stands at the front of a source from a byte on.
