@@ -1,5 +1,6 @@
 -- Files of classes, and reading them.
-use Rattle.std.proofs.Common.{◌≡◌, ℕ, ◌≤◌, Bool, true, false, not, cond, ◌&&◌, ◌||◌, nat_eq, nat_le, List, [], ◌∷◌, ◌++◌, length, drop, codes, Some, None, refl, sym, ap, ◌∙◌, arith, subst, ltb, eqb-true, if◌then◌else◌, append_assoc}
+use Rattle.std.proofs.Common.{◌≡◌, ℕ, ◌≤◌, Bool, true, false, not, cond, ◌&&◌, ◌||◌, nat_eq, nat_le, List, [], ◌∷◌, ◌++◌, length, drop, codes, Option, Some, None, refl, sym, ap, ◌∙◌, arith, subst, ltb, eqb-true, if◌then◌else◌, append_assoc}
+use Rattle.std.specs.Prelude.{⊤}
 use Rattle.std.specs.List.{list_all, slice_split, onto_first, before_first, after_first}
 use Rattle.std.specs.Str.{IsAscii, IsUtf8}
 use Rattle.std.specs.Cmp.Lexicographic.{pointwise}
@@ -12,7 +13,7 @@ use Rattle.mol_renames.specs.Names.{is_lower, is_upper, is_digit, is_segment, is
 use Rattle.mol_base.specs.Limits.{max_name_bytes}
 use Rattle.mol_base.specs.Paths.{path_of}
 use Rattle.mol_files.specs.Files.{FilePair}
-use Rattle.mol_renames.specs.ClassFiles.{Address, IsClassFile, address_in, cut_address, text_of}
+use Rattle.mol_renames.specs.ClassFiles.{Address, IsClassFile, address_in, cut_address, is_file_of, text_of}
 use Rattle.mol_renames.proofs.Cuts.{before_there, after_there}
 
 -- ---- bytes of names
@@ -131,3 +132,24 @@ only_class file address is =
     subst (λ (a : Address). (if is_package a.0 && (is_class_name a.1 && (pointwise nat_eq (text_of a.0 a.1) (text_of address.0 address.1) && pointwise nat_eq (path_of a.0 a.1) (path_of address.0 address.1))) then Some a else None) ≡ Some address) (sym cut)
     (by_tests address _ _ _ _ names.0 names.1 (same_bytes (text_of address.0 address.1)) (same_bytes (path_of address.0 address.1))) in
     ap address_in is.1 ∙ whole
+
+abbrev are_read : FilePair → Option Address → Type 0
+are_read file None = ⊤
+are_read file (Some address) = IsClassFile file address
+
+of_tests : (file : FilePair) (address found : Address) (b : Bool)
+    → (is_package address.0 && (is_class_name address.1 && is_file_of file address)) ≡ b
+    → (if b then Some address else None) ≡ Some found → IsClassFile file found
+of_tests file address found true tests is =
+    let names = and_parts (is_package address.0) _ tests in
+    let rest = and_parts (is_class_name address.1) _ names.1 in
+    let same = and_parts (pointwise nat_eq (text_of address.0 address.1) file.1) _ rest.1 in
+    let text = (bytes_eq-Decides (text_of address.0 address.1) file.1).0 same.0 in
+    let path = (bytes_eq-Decides (path_of address.0 address.1) file.0).0 same.1 in
+    subst (are_read file) is
+    (and_from (is_package address.0) (is_class_name address.1) names.0 rest.0, λ i. (sym path i, sym text i))
+of_tests file address found false tests is = absurd cc
+
+-- what a file is read as is a class whose file it is
+pub class_read : (file : FilePair) (address : Address) → address_in file ≡ Some address → IsClassFile file address
+class_read file address is = of_tests file (cut_address file.1) address _ refl is

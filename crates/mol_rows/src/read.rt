@@ -5,7 +5,7 @@ ghost use Rattle.std.specs.Prelude.{◌≡◌, codes, IfOk, IfErr};
 ghost use Rattle.serde_json.specs.View.{view};
 ghost use Rattle.mol_base.specs.declared.ident.Stamp.{Stamp as Stamped};
 ghost use Rattle.mol_rows.specs.RowReader as reader;
-ghost use Rattle.mol_lines.specs.Reader.{Gives, Reads, members_left};
+ghost use Rattle.mol_lines.specs.Reader.{Gives, Reads, members_left, object_from};
 ghost use Rattle.mol_rows.specs.RowData.{IsRow};
 ghost use Rattle.mol_rows.specs.declared.row.Row.{Row as AnyRow};
 
@@ -32,14 +32,21 @@ pub fn read_row(alloc: Global, value: Value) -> Result<Recorded, ObjectFault>
     recorded(alloc, value)
 }
 
-/// The stamp and the row, member after member.
+/// The stamp and the row.
 fn recorded(alloc: Global, value: Value) -> Result<Recorded, ObjectFault>
     ensures { Gives (reader.recorded_from (view value)) result }
 {
     let name = op_name(alloc, &value)?;
+    recorded_as(alloc, &name, value)
+}
+
+/// The stamp and the row of an operation of this name, member after member.
+fn recorded_as(alloc: Global, name: &Text, value: Value) -> Result<Recorded, ObjectFault>
+    ensures { Gives (object_from (reader.recorded name.now) (view value)) result }
+{
     let mut members = Members::of(value)?;
     let stamp = members.stamp("at")?;
-    let row = row_named(alloc, &name, &mut members)?;
+    let row = row_named(alloc, name, &mut members)?;
     members.end()?;
     Ok(Recorded { stamp, row })
 }
