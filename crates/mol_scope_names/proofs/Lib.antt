@@ -1,3 +1,5 @@
+pub mod FewFirst
+pub mod FirstNamed
 pub mod PlacesPushed
 pub mod PlacesPut
 pub mod ScopeKept

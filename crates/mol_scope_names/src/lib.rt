@@ -1,6 +1,8 @@
-//! The names of locals in scope and of parameters, each found by one look-up (JLS 6.3, 6.4.1).
+//! The names of locals in scope and of parameters, each found in about the same time however many there are (JLS 6.3, 6.4.1).
 #![tactic(auto)]
 
+mod few;
+mod indexed_names;
 mod nearest;
 mod param_names;
 mod scope;

@@ -1,8 +1,9 @@
 //! The names of parameters.
 ghost use Rattle.std.specs.Prelude.{◌≡◌, IfOk};
 ghost use Rattle.jav_view.specs.LookUps.{first_place};
-ghost use Rattle.mol_scope_names.specs.Params.{param_names, AreFirst};
+ghost use Rattle.mol_scope_names.specs.Params.{param_names, AreFirst, AreIndexed};
 
+use crate::few::{FEW, first_of};
 use crate::nearest::{found_at, put_first};
 use indexmap::IndexMap;
 use mol_base::OutOfMemory;
@@ -14,14 +15,14 @@ use std::marker::Model;
 #[derive(Drop)]
 pub struct ParamNames<'a> {
     params: &'a [Param],
-    /// The place of the first parameter of each name.
+    /// The place of the first parameter of each name, where there are more than a few.
     first: IndexMap<&'a str, Option<usize>>,
 }
 
 impl<'a> Model for ParamNames<'a> {
     ghost use Rattle.std.specs.Coded.{coded_list, coded_ℕ};
     ghost use Rattle.jav_view.specs.DottedNames.{Names};
-    ghost use Rattle.mol_scope_names.specs.Params.{param_names, AreFirst};
+    ghost use Rattle.mol_scope_names.specs.Params.{param_names, AreIndexed};
 
     ghost Value = { Names };
 
@@ -29,7 +30,7 @@ impl<'a> Model for ParamNames<'a> {
 
     ghost view = { λ names. param_names names.params.now };
 
-    ghost invariant = { λ names. AreFirst (param_names names.params.now) names.first.entries };
+    ghost invariant = { λ names. AreIndexed names.params.now names.first.entries };
 }
 
 impl<'a> ParamNames<'a> {
@@ -37,7 +38,7 @@ impl<'a> ParamNames<'a> {
     pub fn new(alloc: Global, params: &'a [Param]) -> Result<ParamNames<'a>, OutOfMemory>
         ensures { IfOk result (λ names. names ≡ param_names params.now) }
     {
-        let first = first_places(alloc, params)?;
+        let first = index_of(alloc, params)?;
         Ok(ParamNames { params, first })
     }
 
@@ -46,7 +47,25 @@ impl<'a> ParamNames<'a> {
     pub fn place_of(&self, name: &str) -> Option<usize>
         ensures { result ≡ first_place name.now self.now }
     {
-        found_at(&self.first, name)
+        if self.params.len() > FEW {
+            found_at(&self.first, name)
+        } else {
+            first_of(self.params, name)
+        }
+    }
+}
+
+/// The place of the first parameter of each name, where there are more than a few.
+fn index_of<'a>(
+    alloc: Global,
+    params: &'a [Param],
+) -> Result<IndexMap<&'a str, Option<usize>>, OutOfMemory>
+    ensures { IfOk result (λ first. AreIndexed params.now first.entries) }
+{
+    if params.len() > FEW {
+        first_places(alloc, params)
+    } else {
+        Ok(IndexMap::new(alloc))
     }
 }
 

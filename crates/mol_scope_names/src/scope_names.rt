@@ -2,9 +2,8 @@
 ghost use Rattle.std.specs.Prelude.{◌≡◌, ◌++◌, ◌∷◌, [], OnOk, OnErr, length, take};
 ghost use Rattle.jav_view.specs.LookUps.{last_place};
 
-use crate::nearest::found_at;
-use crate::scope::{InScope, enter, leave_from};
-use indexmap::IndexMap;
+use crate::few::{FEW, last_of};
+use crate::indexed_names::IndexedNames;
 use mol_base::OutOfMemory;
 use std::alloc::Global;
 use std::marker::Model;
@@ -12,23 +11,25 @@ use std::marker::Model;
 /// The names of the locals in scope at a place in a body. Contracts see them in the order in which they came into scope, the nearest last.
 #[derive(Drop)]
 pub struct ScopeNames<'a> {
-    in_scope: Vec<InScope<'a>>,
-    /// The place of the nearest in scope of each name; `None` where those of the name are out of scope.
-    nearest: IndexMap<&'a str, Option<usize>>,
+    /// The first names in scope, which are gone through.
+    few: Vec<&'a str>,
+    /// Those after them. There are none before a few are there.
+    more: IndexedNames<'a>,
 }
 
 impl<'a> Model for ScopeNames<'a> {
     ghost use Rattle.std.specs.Coded.{coded_list, coded_ℕ};
+    ghost use Rattle.std.specs.Prelude.{◌++◌};
     ghost use Rattle.jav_view.specs.DottedNames.{Names};
-    ghost use Rattle.mol_scope_names.specs.Scopes.{names_in, AreNearest};
+    ghost use Rattle.mol_scope_names.specs.Few.{names_of, AreFewFirst};
 
     ghost Value = { Names };
 
     ghost coded = { coded_list (coded_list coded_ℕ) };
 
-    ghost view = { λ names. names_in names.in_scope.items };
+    ghost view = { λ names. names_of names.few.items ++ names.more };
 
-    ghost invariant = { λ names. AreNearest names.in_scope.items names.nearest.entries };
+    ghost invariant = { λ names. AreFewFirst names.few.items names.more };
 }
 
 impl<'a> ScopeNames<'a> {
@@ -37,8 +38,8 @@ impl<'a> ScopeNames<'a> {
         ensures { result ≡ [] }
     {
         ScopeNames {
-            in_scope: Vec::new(alloc),
-            nearest: IndexMap::new(alloc),
+            few: Vec::new(alloc),
+            more: IndexedNames::new(alloc),
         }
     }
 
@@ -46,7 +47,10 @@ impl<'a> ScopeNames<'a> {
     pub fn place_of(&self, name: &str) -> Option<usize>
         ensures { result ≡ last_place name.now self.now }
     {
-        found_at(&self.nearest, name)
+        match self.more.place_of(name) {
+            Some(place) => Some(self.few.len() + place),
+            None => last_of(self.few.as_slice(), name),
+        }
     }
 
     /// A local of this name comes into scope (JLS 6.3). For want of memory nothing changes.
@@ -54,14 +58,19 @@ impl<'a> ScopeNames<'a> {
         ensures ok { OnOk result (self.new ≡ self.old ++ name.now ∷ []) }
         ensures err { OnErr result (self.new ≡ self.old) }
     {
-        enter(&mut self.in_scope, &mut self.nearest, name)
+        if self.few.len() < FEW {
+            self.few.push(name)?;
+            Ok(())
+        } else {
+            self.more.enter(name)
+        }
     }
 
     /// How many are in scope: at the beginning of a block, what `end_block` is to be given at its end. It takes no memory.
     pub fn mark(&self) -> usize
         ensures { result ≡ length self.now }
     {
-        self.in_scope.len()
+        self.few.len() + self.more.len()
     }
 
     /// The end of a block: in scope stay the locals that were so at its beginning, as many as `mark` answered there (JLS 6.3). It takes no
@@ -69,6 +78,7 @@ impl<'a> ScopeNames<'a> {
     pub fn end_block(&mut self, mark: usize)
         ensures { self.new ≡ take mark self.old }
     {
-        leave_from(&mut self.in_scope, &mut self.nearest, mark);
+        self.more.truncate(mark.saturating_sub(self.few.len()));
+        self.few.truncate(mark);
     }
 }

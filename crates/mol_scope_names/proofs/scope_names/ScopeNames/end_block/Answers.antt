@@ -1,17 +1,14 @@
-use Rattle.std.proofs.Common.{◌∙◌, take, sym, ap}
-use Rattle.std.proofs.lemmas.List.{take-map}
-use Rattle.mol_scope_names.specs.Scopes.{names_in}
-use Rattle.mol_scope_names.specs.declared.scope.InScope.{InScope}
+use Rattle.std.proofs.Common.{◌≡◌, ◌∙◌, ◌-◌, ◌++◌, ap, length, rules, take}
+use Rattle.mol_scope_names.specs.Few.{names_of}
+use Rattle.mol_scope_names.proofs.FewFirst.{taken}
 use Rattle.mol_scope_names.proofs.scope_names.ScopeNames.end_block.Goals as goal
-
-pub leave_from-requires : goal.leave_from-requires
-leave_from-requires c = c.self.invariant
-
-pub invariant_of-self : goal.invariant_of-self
-invariant_of-self c = c.leave_from.ensures.stands
 
 pub returns : goal.returns
 returns c =
-    ap names_in c.leave_from.ensures.scope
-    ∙ sym (take-map (λ (l : InScope). l.name.now) c.args.mark c.self.inside.in_scope.items)
+    let few = c.self.inside.few.items in
+    let more = c.self.inside.more in
+    let many : c.len.result ≡ length few = search rules in
+    (λ i. names_of (c.truncate-2.ensures.items i)
+    ++ (c.truncate.ensures ∙ ap (λ mark. take mark more) (c.saturating_sub.ensures ∙ ap (λ n. c.args.mark - n) many)) i)
+    ∙ taken few more c.args.mark
     ∙ ap (take c.args.mark) c.self.view_is

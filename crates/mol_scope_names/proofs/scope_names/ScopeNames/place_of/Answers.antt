@@ -1,7 +1,19 @@
-use Rattle.std.proofs.Common.{◌∙◌, ap}
+use Rattle.std.proofs.Common.{◌≡◌, ◌∙◌, ◌+◌, Some, ap, length, rules, sym}
 use Rattle.jav_view.specs.LookUps.{last_place}
+use Rattle.mol_scope_names.specs.Few.{names_of}
+use Rattle.mol_scope_names.proofs.FewFirst.{last-in-few, last-in-more}
 use Rattle.mol_scope_names.proofs.scope_names.ScopeNames.place_of.Goals as goal
 
-pub returns : goal.returns
-returns c =
-    c.found_at.ensures ∙ c.self.invariant.found c.args.name.now ∙ ap (last_place c.args.name.now) c.self.view_is
+pub returns-in-Some : goal.returns-in-Some
+returns-in-Some c =
+    let many : c.len.result ≡ length c.self.inside.few.items = search rules in
+    ap (λ many. Some (many + c.in-Some.place)) many
+    ∙ last-in-more c.self.inside.few.items c.self.inside.more c.args.name.now c.in-Some.place (sym c.in-Some.ensures.is)
+    ∙ ap (last_place c.args.name.now) c.self.view_is
+
+pub returns-in-None : goal.returns-in-None
+returns-in-None c =
+    c.last_of.ensures
+    ∙ ap (λ names. last_place c.args.name.now (names_of names)) c.as_slice.ensures.value
+    ∙ last-in-few c.self.inside.few.items c.self.inside.more c.args.name.now (sym c.in-None.ensures.is)
+    ∙ ap (last_place c.args.name.now) c.self.view_is

@@ -1,6 +1,6 @@
 use Rattle.std.proofs.lemmas.Result.{on_ok_weaker, on_err_weaker}
 use Rattle.mol_scope_names.proofs.ScopeKept.{seen_entered, seen_same}
-use Rattle.mol_scope_names.proofs.scope_names.ScopeNames.enter.Goals as goal
+use Rattle.mol_scope_names.proofs.indexed_names.IndexedNames.enter.Goals as goal
 
 pub enter-requires : goal.enter-requires
 enter-requires c = c.self.invariant
