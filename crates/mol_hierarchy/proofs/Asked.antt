@@ -13,13 +13,15 @@ use Rattle.mol_table.proofs.Living.{id_tied, same_id-own}
 use Rattle.mol_table.specs.Ancestors.{living_parent, is_on_way}
 use Rattle.mol_table.specs.Heights.{upward}
 use Rattle.mol_table.specs.Identities.{AreKnown}
-use Rattle.mol_table.specs.Program.{Program, value_at, parent_in}
+use Rattle.mol_table.specs.Program.{Program, value_at, parent_in, parent_at}
+use Rattle.mol_table.specs.Renumber.{is_class}
 use Rattle.mol_table.specs.Rules.{IsProgram}
 use Rattle.mol_values.proofs.Ties.{id_ties}
 use Rattle.mol_values.specs.Order.{id_eq}
 use Rattle.mol_values.specs.Slots.{has_slot}
 use Rattle.mol_values.specs.declared.cell.Slot.TheVariants as slots
 use Rattle.mol_values.specs.declared.known.Known.{Known}
+use Rattle.mol_values.specs.declared.known.Known.TheVariants as knowns
 use Rattle.mol_values.specs.declared.value.Value.{Value}
 use Rattle.mol_hierarchy.specs.Forest.{IsUp, here, IsTopClass}
 use Rattle.mol_hierarchy.specs.Placed.{number_in, HasAbove, ArePlaced, IsHierarchy, Keeps}
@@ -41,15 +43,30 @@ none-placed program numbers places no_numbers no_places = record {
   none : (class : Id) → number_in numbers class ≡ None
   none class = ap (λ ns. number_in ns class) no_numbers ∙ get-empty id_cmp class
 
--- what is not known extends nothing
-pub unknown-alone : (program : Program) → IsProgram program → (class : Id) → get program.known class ≡ None
-    → upward program (Some class) ≡ None
-unknown-alone program rules class none =
-    ap (λ o. living_parent program (parent_in o))
-    (nothing (value_at program class slots.Super) (rules.whole class slots.Super ∙ ap (λ k. has_slot k slots.Super) none)) where
-      nothing : (o : Option Value) → is_some o ≡ false → o ≡ None
-      nothing None is = refl
-      nothing (Some value) is = absurd (true≢false is)
+-- ---- what extends nothing
+
+module _ (program : Program) (rules : IsProgram program) (id : Id) where
+  -- what has no such cell
+  without-parent : has_slot (get program.known id) slots.Super ≡ false → parent_at program id ≡ None
+  without-parent bare = ap parent_in (nothing (value_at program id slots.Super) (rules.whole id slots.Super ∙ bare)) where
+    nothing : (o : Option Value) → is_some o ≡ false → o ≡ None
+    nothing None is = refl
+    nothing (Some value) is = absurd (true≢false is)
+
+  -- what is no class
+  pub no-class : is_class (get program.known id) ≡ false → parent_at program id ≡ None
+  no-class fails = without-parent (bare (get program.known id) fails) where
+    bare : (o : Option Known) → is_class o ≡ false → has_slot o slots.Super ≡ false
+    bare None is = refl
+    bare (Some knowns.Class) is = absurd (true≢false is)
+    bare (Some (knowns.Method kind)) is = refl
+    bare (Some (knowns.Decl method)) is = refl
+    bare (Some knowns.Field) is = refl
+    bare (Some (knowns.Param method)) is = refl
+
+  -- what is not known
+  pub unknown-alone : get program.known id ≡ None → upward program (Some id) ≡ None
+  unknown-alone none = ap (living_parent program) (no-class (ap is_class none))
 
 -- ---- classes without a place
 
