@@ -1,6 +1,5 @@
 -- What the indexes of constructors find is what the rule finds.
-use Rattle.std.proofs.Common.{◌≡◌, ◌≢◌, ℕ, ◌==◌, Bool, true, false, cond, not, ◌&&◌, ◌||◌, List, [], ◌∷◌, Option, Some, None, is_some, option_map, filter_map, find, ne_eqb, refl, sym, ◌∙◌, ap, if◌then◌else◌}
-use Rattle.std.specs.FinMap.{entries}
+use Rattle.std.proofs.Common.{◌≡◌, ◌≢◌, ℕ, ◌==◌, Bool, true, false, cond, not, ◌&&◌, ◌||◌, List, [], ◌∷◌, Option, Some, None, is_some, option_map, find, ne_eqb, refl, sym, ◌∙◌, ap, if◌then◌else◌}
 use Rattle.std.specs.List.{list_any}
 use Rattle.std.specs.Ordering.{is_eq}
 use Rattle.std.proofs.Math.Bool.{and-true, and-false}
@@ -12,14 +11,12 @@ use Rattle.mol_base.specs.Order.{id_cmp}
 use Rattle.mol_base.specs.declared.ident.Id.{Id}
 use Rattle.mol_index.proofs.Sought.{sought-is}
 use Rattle.mol_index.specs.Seeking.{is_sought}
-use Rattle.mol_index.specs.declared.entry.Entry.{Entry}
-use Rattle.mol_spell.specs.ProgramViews.{living_declaration, program_view}
+use Rattle.mol_spell.specs.ProgramViews.{program_view}
 use Rattle.mol_table.specs.Program.{Program}
 use Rattle.mol_declared.specs.Indexed.{AreIndexed, constructor_id, found_in}
-use Rattle.mol_declared.specs.MemberEntries.{constructor_entry, owner_entry, declared_entry, entries_of}
-use Rattle.mol_declared.specs.declared.entries.Listed.TheVariants as lists
+use Rattle.mol_declared.specs.MemberEntries.{constructor_entry, owner_entry, listed_constructor, listed_owner}
 use Rattle.mol_declared.specs.declared.members.Members.{Members}
-use Rattle.mol_declared.proofs.EntriesMade.{id_of, Fits, found-made, fused}
+use Rattle.mol_declared.proofs.EntriesMade.{id_of, Fits, found-made}
 
 is_some-find : {X : Type 0} (p : X → Bool) (xs : List X) → is_some (find p xs) ≡ list_any p xs
 is_some-find p [] = refl
@@ -46,10 +43,9 @@ module _ (program : Program) (members : Members) (indexed : AreIndexed members p
   takes arity declared = declares declared && declared.arity == arity
 
   constructor-fits : (arity : ℕ) (declared : ViewDeclaration Id Id)
-      → Fits (declared_entry lists.Constructors) key (takes arity) (is_sought class arity []) declared
-      (declared_entry lists.Constructors declared)
+      → Fits listed_constructor key (takes arity) (is_sought class arity []) declared (listed_constructor declared)
   constructor-fits arity declared = by (is_constructor declared.kind) refl where
-    by : (b : Bool) → is_constructor declared.kind ≡ b → Fits (declared_entry lists.Constructors) key (takes arity)
+    by : (b : Bool) → is_constructor declared.kind ≡ b → Fits listed_constructor key (takes arity)
         (is_sought class arity []) declared (if b then Some (constructor_entry declared) else None)
     by true is = (
       sought-is class arity [] (constructor_entry declared)
@@ -62,9 +58,9 @@ module _ (program : Program) (members : Members) (indexed : AreIndexed members p
         ∙ ap (λ b. b && declared.arity == arity) (and-false (is_eq (id_cmp declared.owner class)))
 
   owner-fits : (declared : ViewDeclaration Id Id)
-      → Fits (declared_entry lists.Constructed) key declares (is_sought class 0 []) declared (declared_entry lists.Constructed declared)
+      → Fits listed_owner key declares (is_sought class 0 []) declared (listed_owner declared)
   owner-fits declared = by (is_constructor declared.kind) refl where
-    by : (b : Bool) → is_constructor declared.kind ≡ b → Fits (declared_entry lists.Constructed) key declares
+    by : (b : Bool) → is_constructor declared.kind ≡ b → Fits listed_owner key declares
         (is_sought class 0 []) declared (if b then Some (owner_entry declared) else None)
     by true is = (
       sought-is class 0 [] (owner_entry declared) ∙ ap (λ b. is_eq (id_cmp declared.owner class) && b) (sym is),
@@ -74,23 +70,14 @@ module _ (program : Program) (members : Members) (indexed : AreIndexed members p
 
   pub found-declared : (arity : ℕ) → found_in members.constructors arity [] class ≡ option_map key (find (takes arity) view.declarations)
   found-declared arity =
-      ap (option_map id_of) (
-      indexed.constructors class arity []
-      ∙ ap (find (is_sought class arity []))
-      (fused (living_declaration program) (declared_entry lists.Constructors) (entries program.known))
-      )
-      ∙ found-made (declared_entry lists.Constructors) key (takes arity) (is_sought class arity []) (constructor-fits arity)
-      view.declarations
+      ap (option_map id_of) (indexed.constructors class arity [])
+      ∙ found-made listed_constructor key (takes arity) (is_sought class arity []) (constructor-fits arity) view.declarations
 
   pub some-declared : is_some (found_in members.constructed 0 [] class) ≡ list_any declares view.declarations
   some-declared =
       ap is_some (
-      ap (option_map id_of) (
-      indexed.constructed class 0 []
-      ∙ ap (find (is_sought class 0 []))
-      (fused (living_declaration program) (declared_entry lists.Constructed) (entries program.known))
-      )
-      ∙ found-made (declared_entry lists.Constructed) key declares (is_sought class 0 []) owner-fits view.declarations
+      ap (option_map id_of) (indexed.constructed class 0 [])
+      ∙ found-made listed_owner key declares (is_sought class 0 []) owner-fits view.declarations
       )
       ∙ is_some-map key (find declares view.declarations) ∙ is_some-find declares view.declarations
 

@@ -1,5 +1,5 @@
 -- Where the index of declarations finds a method.
-use Rattle.std.proofs.Common.{◌≡◌, Bool, true, false, ◌&&◌, [], Option, Some, None, option_map, find, refl, sym, ◌∙◌, ap}
+use Rattle.std.proofs.Common.{◌≡◌, Bool, [], Option, Some, None, option_map, find, refl, sym, ◌∙◌, ap}
 use Rattle.std.specs.FinMap.{entries}
 use Rattle.std.specs.Option.{option_and_then}
 use Rattle.std.specs.Ordering.{is_eq}
@@ -18,8 +18,7 @@ use Rattle.mol_table.specs.Program.{Program, same_id, owner_at}
 use Rattle.mol_values.specs.declared.known.Known.{Known}
 use Rattle.mol_values.specs.declared.known.Known.TheVariants as knowns
 use Rattle.mol_declared.specs.Indexed.{AreIndexed, found_in}
-use Rattle.mol_declared.specs.MemberEntries.{declaring_entry, entries_of}
-use Rattle.mol_declared.specs.declared.entries.Listed.TheVariants as lists
+use Rattle.mol_declared.specs.MemberEntries.{declaring_entry}
 use Rattle.mol_declared.specs.declared.members.Members.{Members}
 use Rattle.mol_declared.proofs.EntriesMade.{id_of, Fits, found-made}
 

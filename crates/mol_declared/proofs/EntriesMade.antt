@@ -1,7 +1,6 @@
 -- What is found among entries that are made of the elements of a list.
-use Rattle.std.proofs.Common.{◌≡◌, Bool, true, false, cond, List, [], ◌∷◌, Option, Some, None, option_map, filter_map, find, refl, sym, ◌∙◌, ap}
+use Rattle.std.proofs.Common.{◌≡◌, Bool, true, false, cond, List, [], ◌∷◌, Option, Some, None, option_map, map, filter_map, find, refl, sym, ◌∙◌, ap}
 use Rattle.std.specs.List.{cons_option}
-use Rattle.std.specs.Option.{option_and_then}
 use Rattle.mol_base.specs.declared.ident.Id.{Id}
 use Rattle.mol_index.specs.declared.entry.Entry.{Entry}
 
@@ -31,23 +30,7 @@ module _ {X : Type 0} (make : X → Option Entry) (key : X → Id) (passes : X �
         ap (λ b. option_map id_of (cond b (Some entry) (find sought (filter_map make xs)))) fit.0
         ∙ by_test entry fit.1 more (passes x)
 
-module _ {X Y Z : Type 0} (first : X → Option Y) where
-  pub fused : (next : Y → Option Z) (xs : List X)
-      → filter_map (λ x. option_and_then next (first x)) xs ≡ filter_map next (filter_map first xs)
-  fused next [] = refl
-  fused next (x ∷ xs) = by (first x) (fused next xs) where
-    by : (o : Option Y) → filter_map (λ x. option_and_then next (first x)) xs ≡ filter_map next (filter_map first xs)
-        → cons_option (option_and_then next o) (filter_map (λ x. option_and_then next (first x)) xs)
-        ≡ filter_map next (cons_option o (filter_map first xs))
-    by None more = more
-    by (Some y) more = ap (cons_option (next y)) more
-
-  pub mapped-fused : (next : Y → Z) (xs : List X)
-      → filter_map (λ x. option_map next (first x)) xs ≡ filter_map (λ y. Some (next y)) (filter_map first xs)
-  mapped-fused next [] = refl
-  mapped-fused next (x ∷ xs) = by (first x) (mapped-fused next xs) where
-    by : (o : Option Y) → filter_map (λ x. option_map next (first x)) xs ≡ filter_map (λ y. Some (next y)) (filter_map first xs)
-        → cons_option (option_map next o) (filter_map (λ x. option_map next (first x)) xs)
-        ≡ filter_map (λ y. Some (next y)) (cons_option o (filter_map first xs))
-    by None more = more
-    by (Some y) more = ap (λ zs. next y ∷ zs) more
+-- what is made of each element
+pub mapped-made : {X Y : Type 0} (make : X → Y) (xs : List X) → map make xs ≡ filter_map (λ x. Some (make x)) xs
+mapped-made make [] = refl
+mapped-made make (x ∷ xs) = ap (λ ys. make x ∷ ys) (mapped-made make xs)

@@ -1,6 +1,5 @@
 -- What the indexes of fields and methods find in a class.
-use Rattle.std.proofs.Common.{◌≡◌, ℕ, ◌==◌, Bool, true, false, not, ◌&&◌, List, Option, Some, None, option_map, filter_map, find, refl, sym, ◌∙◌, ap, bytes_eq, if◌then◌else◌}
-use Rattle.std.specs.FinMap.{entries}
+use Rattle.std.proofs.Common.{◌≡◌, ℕ, ◌==◌, Bool, true, false, not, ◌&&◌, Some, None, option_map, find, refl, sym, ◌∙◌, ap, bytes_eq, if◌then◌else◌}
 use Rattle.std.specs.Ordering.{is_eq}
 use Rattle.std.proofs.Math.Bool.{and_comm}
 use Rattle.jav_view.specs.DottedNames.{Name}
@@ -10,13 +9,12 @@ use Rattle.mol_base.specs.Order.{id_cmp}
 use Rattle.mol_base.specs.declared.ident.Id.{Id}
 use Rattle.mol_index.proofs.Sought.{sought-is}
 use Rattle.mol_index.specs.Seeking.{is_sought}
-use Rattle.mol_spell.specs.ProgramViews.{living_field, living_declaration, program_view}
+use Rattle.mol_spell.specs.ProgramViews.{program_view}
 use Rattle.mol_table.specs.Program.{Program}
 use Rattle.mol_declared.specs.Indexed.{AreIndexed, found_in, declared_field, declared_method}
-use Rattle.mol_declared.specs.MemberEntries.{field_entry, method_entry, declared_entry, entries_of}
-use Rattle.mol_declared.specs.declared.entries.Listed.TheVariants as lists
+use Rattle.mol_declared.specs.MemberEntries.{field_entry, method_entry, listed_method}
 use Rattle.mol_declared.specs.declared.members.Members.{Members}
-use Rattle.mol_declared.proofs.EntriesMade.{id_of, Fits, found-made, fused, mapped-fused}
+use Rattle.mol_declared.proofs.EntriesMade.{id_of, Fits, found-made, mapped-made}
 
 module _ (program : Program) where
   abbrev pub view : View Id Id
@@ -41,15 +39,12 @@ module _ (program : Program) where
     refl,
   )
 
-  fields-are : entries_of lists.Fields program ≡ filter_map (λ f. Some (field_entry f)) view.fields
-  fields-are = mapped-fused (living_field program) field_entry (entries program.known)
-
   method-fits : (name : Name) (arity : ℕ) (class : Id) (declared : ViewDeclaration Id Id)
-      → Fits (declared_entry lists.Methods) declaration_key (method_passes name arity class) (is_sought class arity name) declared
-      (declared_entry lists.Methods declared)
+      → Fits listed_method declaration_key (method_passes name arity class) (is_sought class arity name) declared
+      (listed_method declared)
   method-fits name arity class declared = by (is_constructor declared.kind) refl where
     by : (b : Bool) → is_constructor declared.kind ≡ b
-        → Fits (declared_entry lists.Methods) declaration_key (method_passes name arity class) (is_sought class arity name) declared
+        → Fits listed_method declaration_key (method_passes name arity class) (is_sought class arity name) declared
         (if b then None else Some (method_entry declared))
     by true is = ap (λ b. (not b && (bytes_eq declared.name name && declared.arity == arity)) && is_eq (id_cmp declared.owner class)) is
     by false is = (
@@ -60,20 +55,17 @@ module _ (program : Program) where
       refl,
     )
 
-  methods-are : entries_of lists.Methods program ≡ filter_map (declared_entry lists.Methods) view.declarations
-  methods-are = fused (living_declaration program) (declared_entry lists.Methods) (entries program.known)
-
   module _ (members : Members) (indexed : AreIndexed members program) where
     pub field-same : (name : Name) (class : Id)
         → found_in members.fields 0 name class ≡ option_map field_key (declared_field view class name)
     field-same name class =
-        ap (option_map id_of) (indexed.fields class 0 name ∙ ap (find (is_sought class 0 name)) fields-are)
+        ap (option_map id_of) (indexed.fields class 0 name ∙ ap (find (is_sought class 0 name)) (mapped-made field_entry view.fields))
         ∙ found-made (λ f. Some (field_entry f)) field_key (field_passes name class) (is_sought class 0 name) (field-fits name class)
         view.fields
 
     pub method-same : (name : Name) (arity : ℕ) (class : Id)
         → found_in members.methods arity name class ≡ option_map declaration_key (declared_method view class name arity)
     method-same name arity class =
-        ap (option_map id_of) (indexed.methods class arity name ∙ ap (find (is_sought class arity name)) methods-are)
-        ∙ found-made (declared_entry lists.Methods) declaration_key (method_passes name arity class) (is_sought class arity name)
+        ap (option_map id_of) (indexed.methods class arity name)
+        ∙ found-made listed_method declaration_key (method_passes name arity class) (is_sought class arity name)
         (method-fits name arity class) view.declarations

@@ -1,56 +1,15 @@
--- The classes at each name, one identity further.
-use Rattle.std.proofs.Common.{◌≡◌, ℕ, suc, ◌+◌, ◌==◌, arith, eqb-true, ◌<◌, ◌≤◌, Bool, true, false, not, ◌||◌, if◌then◌else◌, List, [], ◌∷◌, ◌++◌, take, length, get_or, filter_map, Option, Some, None, refl, sym, ◌∙◌, ap, bytes_eq}
+-- The classes at each name, one further.
+use Rattle.std.proofs.Common.{◌≡◌, ℕ, suc, ◌==◌, arith, eqb-true, Bool, true, false, not, ◌||◌, if◌then◌else◌, List, [], ◌∷◌, ◌++◌, length, Option, Some, None, refl, sym, ◌∙◌, ap, bytes_eq}
 use Rattle.std.specs.Borrow.{Bor}
-use Rattle.std.specs.FinMap.{entries}
 use Rattle.std.specs.List.{cons_option, list_any}
 use Rattle.std.specs.Map.{lookup}
-use Rattle.std.specs.Option.{option_and_then, option_map_or, option_to_list}
-use Rattle.std.proofs.lemmas.List.{append-nil, take_all}
-use Rattle.std.proofs.lemmas.List.Elements.{filter_map-append}
+use Rattle.std.specs.Option.{option_map_or, option_to_list}
+use Rattle.std.proofs.lemmas.List.{append-nil}
 use Rattle.std.proofs.lemmas.Slice.Eq.{bytes_eq-Decides}
 use Rattle.jav_view.specs.DottedNames.{Name}
 use Rattle.jav_view.specs.Views.{ViewField}
 use Rattle.mol_base.specs.declared.ident.Id.{Id}
-use Rattle.mol_classes.proofs.KnownIds.{made-known, made-more}
-use Rattle.mol_classes.specs.Made.{made_of}
-use Rattle.mol_table.specs.Identities.{AreKnown, IsAscending}
-use Rattle.mol_table.specs.Program.{Program}
-use Rattle.mol_values.specs.declared.known.Known.{Known}
-use Rattle.mol_declared.specs.Owners.{AreOwners, field_owners, owners_at}
-
--- ---- all owners
-
-module _ {Y : Type 0} (program : Program) (made : Id × Known → Option Y) (owner : Name → Y → Option Id) where
-  -- at each name stand the owners of what is made of these
-  abbrev pub AreSoFar : List Id → List (Bor Name × List Id) → Type 0
-  AreSoFar ids owners = (name : Name) → owners_at owners name ≡ filter_map (owner name) (filter_map (made_of program made) ids)
-
-  pub none-so-far : AreSoFar [] []
-  none-so-far name = refl
-
-  of-one : (f : Y → Option Id) (o : Option Y) → option_to_list (option_and_then f o) ≡ filter_map f (option_to_list o)
-  of-one f None = refl
-  of-one f (Some y) = by (f y) where
-    by : (o : Option Id) → option_to_list o ≡ cons_option o []
-    by None = refl
-    by (Some id) = refl
-
-  pub further : (ids : List Id) (i : ℕ) (id : Id) (old new : List (Bor Name × List Id)) → i < length ids → id ≡ get_or ids i id
-      → AreSoFar (take i ids) old
-      → ((name : Name) → owners_at new name ≡ owners_at old name ++ option_to_list (option_and_then (owner name) (made_of program made id)))
-      → AreSoFar (take (i + 1) ids) new
-  further ids i id old new within at before added name =
-      let make = made_of program made in
-      added name ∙ (λ k. before name k ++ of-one (owner name) (make id) k)
-      ∙ sym (filter_map-append (owner name) (filter_map make (take i ids)) (option_to_list (make id)))
-      ∙ ap (filter_map (owner name)) (sym (made-more make ids i id within at))
-
-  pub all-owners : (ids : List Id) (i : ℕ) (owners : List (Bor Name × List Id)) → IsAscending ids → AreKnown program ids → length ids ≤ i
-      → AreSoFar (take i ids) owners
-      → AreOwners (λ name. filter_map (owner name) (filter_map made (entries program.known))) owners
-  all-owners ids i owners ascending known past so_far name =
-      so_far name ∙ ap (λ front. filter_map (owner name) (filter_map (made_of program made) front)) (take_all i ids past)
-      ∙ ap (filter_map (owner name)) (made-known program made ids ascending known)
+use Rattle.mol_declared.specs.Owners.{field_owners, owners_at}
 
 -- ---- one more at a name
 

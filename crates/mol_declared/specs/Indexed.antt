@@ -1,5 +1,6 @@
 -- What indexes of a program find, and how look-ups answer.
-use Rattle.std.specs.Prelude.{ℕ, ◌&&◌, List, Option, Some, None, option_map, find}
+use Rattle.std.specs.Prelude.{ℕ, ◌&&◌, List, map, filter_map, Option, Some, None, option_map, find}
+use Rattle.std.specs.FinMap.{entries}
 use Rattle.std.specs.Ordering.{is_eq}
 use Rattle.std.specs.Str.{bytes_eq}
 use Rattle.jav_view.specs.DottedNames.{Name}
@@ -11,18 +12,17 @@ use Rattle.mol_index.specs.Seeking.{is_sought, FindsSame}
 use Rattle.mol_index.specs.declared.entry.Entry.{Entry}
 use Rattle.mol_spell.specs.ProgramViews.{program_view}
 use Rattle.mol_table.specs.Program.{Program}
-use Rattle.mol_declared.specs.MemberEntries.{entries_of}
+use Rattle.mol_declared.specs.MemberEntries.{field_entry, listed_method, listed_constructor, listed_owner, declaring_entry}
 use Rattle.mol_declared.specs.Owners.{AreOwners, field_owners, method_owners}
-use Rattle.mol_declared.specs.declared.entries.Listed.TheVariants as lists
 use Rattle.mol_declared.specs.declared.members.Members.{Members}
 
 -- Each index finds the first of its members, and at names stand the classes of fields and methods.
 pub record AreIndexed (members : Members) (program : Program) : Type 0 where
-  pub fields : FindsSame members.fields (entries_of lists.Fields program)
-  pub methods : FindsSame members.methods (entries_of lists.Methods program)
-  pub constructors : FindsSame members.constructors (entries_of lists.Constructors program)
-  pub constructed : FindsSame members.constructed (entries_of lists.Constructed program)
-  pub declared : FindsSame members.declared (entries_of lists.Declared program)
+  pub fields : FindsSame members.fields (map field_entry (program_view program).fields)
+  pub methods : FindsSame members.methods (filter_map listed_method (program_view program).declarations)
+  pub constructors : FindsSame members.constructors (filter_map listed_constructor (program_view program).declarations)
+  pub constructed : FindsSame members.constructed (filter_map listed_owner (program_view program).declarations)
+  pub declared : FindsSame members.declared (filter_map declaring_entry (entries program.known))
   pub field_owners : AreOwners (field_owners (program_view program).fields) members.field_owners.entries
   pub method_owners : AreOwners (method_owners (program_view program).declarations) members.method_owners.entries
 
@@ -37,7 +37,7 @@ declared_method view class name arity =
 
 -- what an index finds in a class by a number of parameters and a name
 abbrev pub found_in : List Entry → ℕ → Name → Id → Option Id
-found_in entries arity name class = option_map (λ entry. entry.id) (find (is_sought class arity name) entries)
+found_in listed arity name class = option_map (λ entry. entry.id) (find (is_sought class arity name) listed)
 
 -- a constructor by its declaration; none is the default one
 abbrev pub constructor_id : Constructor Id Id → Option Id

@@ -1,3 +1,4 @@
+pub mod Collecting
 pub mod Indexed
 pub mod MemberEntries
 pub mod Owners

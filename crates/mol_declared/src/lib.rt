@@ -1,10 +1,10 @@
 //! The members that the classes of a table declare, by their names, and where methods are declared.
 #![tactic(auto)]
 
+mod collected;
 mod constructors;
 mod declaring;
 mod entries;
-mod listed;
 mod living;
 mod member_index;
 mod members;

@@ -1,10 +1,8 @@
 //! Members by their names.
-ghost use Rattle.std.specs.Prelude.{◌≡◌, IfOk};
+ghost use Rattle.std.specs.Prelude.{IfOk};
 ghost use Rattle.mol_declared.specs.Indexed.{AreIndexed};
 
-use crate::entries::Listed;
-use crate::listed::index_of;
-use crate::owners::{field_owners, method_owners};
+use crate::collected::Collected;
 use indexmap::IndexMap;
 use mol_base::{Id, List, OutOfMemory};
 use mol_index::Index;
@@ -30,19 +28,21 @@ impl<'a> Members<'a> {
     pub fn of(alloc: Global, table: &'a Table) -> Result<Members<'a>, OutOfMemory>
         ensures { IfOk result (λ members. AreIndexed members table.now) }
     {
-        let fields = index_of(alloc, table, Listed::Fields)?;
-        let methods = index_of(alloc, table, Listed::Methods)?;
-        let constructors = index_of(alloc, table, Listed::Constructors)?;
-        let constructed = index_of(alloc, table, Listed::Constructed)?;
-        let declared = index_of(alloc, table, Listed::Declared)?;
-        let field_owners = field_owners(alloc, table)?;
-        let method_owners = method_owners(alloc, table)?;
-        Ok(Members {
+        let Collected {
             fields,
             methods,
             constructors,
             constructed,
             declared,
+            field_owners,
+            method_owners,
+        } = Collected::of(alloc, table)?;
+        Ok(Members {
+            fields: Index::new(fields)?,
+            methods: Index::new(methods)?,
+            constructors: Index::new(constructors)?,
+            constructed: Index::new(constructed)?,
+            declared: Index::new(declared)?,
             field_owners,
             method_owners,
         })

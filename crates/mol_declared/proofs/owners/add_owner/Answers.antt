@@ -2,7 +2,7 @@ use Rattle.std.proofs.Common.{◌∙◌, List, [], ◌∷◌, ◌++◌, if◌the
 use Rattle.mol_base.specs.declared.ident.Id.{Id}
 use Rattle.mol_declared.specs.Owners.{owners_at}
 use Rattle.mol_declared.proofs.OwnersAdded.{owners-put}
-use Rattle.mol_declared.proofs.owners.add.Goals as goal
+use Rattle.mol_declared.proofs.owners.add_owner.Goals as goal
 
 pub returns : goal.returns
 returns c = λ asked.

@@ -1,0 +1,18 @@
+use Rattle.std.proofs.Common.{sym}
+use Rattle.std.proofs.lemmas.List.{append-nil}
+use Rattle.mol_declared.specs.Owners.{owners_at}
+use Rattle.mol_declared.proofs.MembersAdded.{pushed}
+use Rattle.mol_declared.proofs.collected.Collected.add_by_method.Goals as goal
+
+pub returns : goal.returns
+returns c =
+    let old = c.args.self.now in
+    record {
+      fields = sym (append-nil old.fields.items);
+      methods = sym (append-nil old.methods.items);
+      constructors = sym (append-nil old.constructors.items);
+      constructed = sym (append-nil old.constructed.items);
+      declared = pushed old.declared.items _ _ _ c.in_ok-push.ensures.items c.nameless_entry.ensures;
+      field_owners = λ name. sym (append-nil (owners_at old.field_owners.entries name));
+      method_owners = λ name. sym (append-nil (owners_at old.method_owners.entries name));
+    }

@@ -1,0 +1,50 @@
+-- The members of a program, collected for indexes.
+use Rattle.std.specs.Prelude.{◌≡◌, List, ◌++◌, map, filter_map, Option, option_map}
+use Rattle.std.specs.FinMap.{entries}
+use Rattle.std.specs.Option.{option_and_then, option_to_list}
+use Rattle.jav_view.specs.DottedNames.{Name}
+use Rattle.jav_view.specs.Views.{ViewField, ViewDeclaration}
+use Rattle.mol_base.specs.declared.ident.Id.{Id}
+use Rattle.mol_index.specs.declared.entry.Entry.{Entry}
+use Rattle.mol_spell.specs.ProgramViews.{living_field, living_declaration, program_view}
+use Rattle.mol_table.specs.Program.{Program}
+use Rattle.mol_values.specs.declared.known.Known.{Known}
+use Rattle.mol_declared.specs.MemberEntries.{field_entry, listed_method, listed_constructor, listed_owner, declaring_entry}
+use Rattle.mol_declared.specs.Owners.{AreOwners, field_owner, field_owners, method_owner, method_owners, owners_at}
+use Rattle.mol_declared.specs.declared.collected.Collected.{Collected}
+
+-- What is collected of these fields and declarations that live, and of these entries of declarations by their methods.
+pub record Collects (collected : Collected) (living_fields : List (ViewField Id Id)) (living : List (ViewDeclaration Id Id))
+    (declaring : List Entry) : Type 0 where
+  pub fields : collected.fields.items ≡ map field_entry living_fields
+  pub methods : collected.methods.items ≡ filter_map listed_method living
+  pub constructors : collected.constructors.items ≡ filter_map listed_constructor living
+  pub constructed : collected.constructed.items ≡ filter_map listed_owner living
+  pub declared : collected.declared.items ≡ declaring
+  pub field_owners : AreOwners (field_owners living_fields) collected.field_owners.entries
+  pub method_owners : AreOwners (method_owners living) collected.method_owners.entries
+
+-- All members of a program are collected.
+abbrev pub AreCollected : Collected → Program → Type 0
+AreCollected collected program =
+    Collects collected (program_view program).fields (program_view program).declarations (filter_map declaring_entry (entries program.known))
+
+-- One more is collected: a field that lives, a declaration that lives, an entry of a declaration by its method, each if there is one.
+pub record Adds (old new : Collected) (field : Option (ViewField Id Id)) (living : Option (ViewDeclaration Id Id))
+    (declaring : Option Entry) : Type 0 where
+  pub fields : new.fields.items ≡ old.fields.items ++ option_to_list (option_map field_entry field)
+  pub methods : new.methods.items ≡ old.methods.items ++ option_to_list (option_and_then listed_method living)
+  pub constructors : new.constructors.items ≡ old.constructors.items ++ option_to_list (option_and_then listed_constructor living)
+  pub constructed : new.constructed.items ≡ old.constructed.items ++ option_to_list (option_and_then listed_owner living)
+  pub declared : new.declared.items ≡ old.declared.items ++ option_to_list declaring
+  pub field_owners : (name : Name) → owners_at new.field_owners.entries name
+      ≡ owners_at old.field_owners.entries name ++ option_to_list (option_and_then (field_owner name) field)
+  pub method_owners : (name : Name) → owners_at new.method_owners.entries name
+      ≡ owners_at old.method_owners.entries name ++ option_to_list (option_and_then (method_owner name) living)
+
+-- What an identity is is collected, by what it is known as.
+abbrev pub AddsKnown : Collected → Collected → Program → Id → Option Known → Type 0
+AddsKnown old new program id known =
+    Adds old new (option_and_then (λ (what : Known). living_field program (id, what)) known)
+    (option_and_then (λ (what : Known). living_declaration program (id, what)) known)
+    (option_and_then (λ (what : Known). declaring_entry (id, what)) known)
