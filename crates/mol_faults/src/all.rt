@@ -13,6 +13,7 @@ use mol_missing_faults::missing;
 use mol_override_faults::false_override;
 use mol_package_faults::package_is_class;
 use mol_pair_faults::same_address;
+use mol_program_index::ProgramIndex;
 use mol_table::Table;
 use std::alloc::Global;
 
@@ -24,14 +25,24 @@ pub fn faults(alloc: Global, table: &Table) -> Result<List<Fault>, OutOfMemory>
     ensures { IfOk result (λ faults. AreFaults table.now (map kept_fault faults)) }
 {
     let tidied = table.tidy(alloc)?;
-    Ok(List::from_vec(all_of(alloc, table, &tidied)?))
+    let all = all_indexed(alloc, table, &tidied)?;
+    Ok(List::from_vec(all))
+}
+
+/// All faults of a program, whose indexes are made of it once it is tidied.
+fn all_indexed(alloc: Global, table: &Table, tidied: &Table) -> Result<Vec<Fault>, OutOfMemory>
+    requires { tidied.now ≡ tidy table.now }
+    ensures { IfOk result (λ all. AreFaults table.now (map kept_fault all.items)) }
+{
+    let index = ProgramIndex::new(alloc, tidied)?;
+    all_of(alloc, table, &index)
 }
 
 /// All faults of a program, which is also there tidied.
 pub(crate) fn all_of(
     alloc: Global,
     table: &Table,
-    tidied: &Table,
+    tidied: &ProgramIndex<'_>,
 ) -> Result<Vec<Fault>, OutOfMemory>
     requires { tidied.now ≡ tidy table.now }
     ensures { IfOk result (λ all. AreFaults table.now (map kept_fault all.items)) }
@@ -46,7 +57,7 @@ fn add_all(
     alloc: Global,
     all: &mut Vec<Fault>,
     table: &Table,
-    tidied: &Table,
+    tidied: &ProgramIndex<'_>,
 ) -> Result<(), OutOfMemory>
     requires none { all.old.items ≡ [] }
     requires tidied { tidied.now ≡ tidy table.now }
@@ -56,7 +67,7 @@ fn add_all(
     add(all, false_override(alloc, table)?)?;
     add(all, apart(alloc, table)?)?;
     add(all, outside_name(alloc, table)?)?;
-    add(all, missing(alloc, table, tidied)?)?;
+    add(all, missing(alloc, table, tidied.table())?)?;
     add(all, misread(alloc, tidied)?)?;
     add(all, local_clash(alloc, table)?)?;
     add(all, package_is_class(alloc, table)?)

@@ -7,6 +7,7 @@ ghost use Rattle.mol_table.specs.Tidy.{tidy};
 use crate::all::{all_of, faults};
 use mol_base::OutOfMemory;
 use mol_fault::Fault;
+use mol_program_index::ProgramIndex;
 use mol_table::Table;
 use std::alloc::Global;
 
@@ -20,11 +21,14 @@ pub fn first_fault(alloc: Global, table: &Table) -> Result<Option<Fault>, OutOfM
 
 /// The first fault of a program of which each value is tidied already, as each program is that sources read as. The answer is that of
 /// `first_fault`, and the table is not copied for it.
-pub fn first_fault_of_tidied(alloc: Global, table: &Table) -> Result<Option<Fault>, OutOfMemory>
-    requires { tidy table.now ≡ table.now }
-    ensures { IfOk result (λ first. IsFirst table.now (option_map kept_fault first)) }
+pub fn first_fault_of_tidied(
+    alloc: Global,
+    program: &ProgramIndex<'_>,
+) -> Result<Option<Fault>, OutOfMemory>
+    requires { tidy program.now ≡ program.now }
+    ensures { IfOk result (λ first. IsFirst program.now (option_map kept_fault first)) }
 {
-    Ok(first_of(all_of(alloc, table, table)?))
+    Ok(first_of(all_of(alloc, program.table(), program)?))
 }
 
 /// The first of these, if there is one.

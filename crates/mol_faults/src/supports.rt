@@ -1,10 +1,10 @@
 //! The support of a fault.
-ghost use Rattle.std.specs.Prelude.{◌≡◌, ◌++◌, IfOk, OnOk, map};
+ghost use Rattle.std.specs.Prelude.{◌≡◌, ◌++◌, ◌↔◌, Contains, IfOk, OnOk, map};
 ghost use Rattle.std.specs.Option.{option_to_list};
 ghost use Rattle.mol_misread_faults.specs.Kept.{kept_misread};
 ghost use Rattle.mol_fault.specs.Kept.{kept_fault, kept_target};
 ghost use Rattle.mol_faults.specs.Met.{met_among, met_by, met_in};
-ghost use Rattle.mol_misread_faults.specs.Found.{kept_name};
+ghost use Rattle.mol_misread_faults.specs.Found.{Found, IsMisread, kept_name};
 ghost use Rattle.mol_spelling.specs.FaultList.{misread};
 ghost use Rattle.mol_spelling.specs.Support.{IsSupport};
 ghost use Rattle.mol_support.specs.Met.{kept_met, HasMet};
@@ -12,6 +12,7 @@ ghost use Rattle.mol_support.specs.Met.{kept_met, HasMet};
 use mol_base::{List, OutOfMemory};
 use mol_fault::{Fault, Target};
 use mol_misread_faults::{Misread, MisreadName, misread_names};
+use mol_program_index::ProgramIndex;
 use mol_support::{Met, support as support_by};
 use mol_table::{Cell, Table};
 use std::alloc::Global;
@@ -51,8 +52,16 @@ fn met_by_name(
         HasMet table.now (misread at.now number (kept_target target.now)) (map kept_met met.items)) }
 {
     let tidied = table.tidy(alloc)?;
-    let names = misread_names(alloc, &tidied)?;
+    let names = names_of_tidied(alloc, &tidied)?;
     met_among(alloc, names.as_slice(), at, number, target)
+}
+
+/// The misread names of a table, whose indexes are made.
+fn names_of_tidied(alloc: Global, tidied: &Table) -> Result<Vec<MisreadName>, OutOfMemory>
+    ensures { IfOk result (λ names. (found : Found) → Contains (map kept_name names.items) found ↔ IsMisread tidied.now found) }
+{
+    let index = ProgramIndex::new(alloc, tidied)?;
+    misread_names(alloc, &index)
 }
 
 /// What the name of this number in a cell, with this target, has to do with, in whichever of these it is misread.

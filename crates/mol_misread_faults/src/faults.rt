@@ -8,7 +8,7 @@ use crate::row::{Row, fault_of, in_row};
 use mol_base::{List, OutOfMemory};
 use mol_fault::Fault;
 use mol_ordered::in_order;
-use mol_table::Table;
+use mol_program_index::ProgramIndex;
 use std::alloc::Global;
 
 /// The names in the files of a program that read as something else than what they are the names of, or as nothing, as faults in order
@@ -16,7 +16,7 @@ use std::alloc::Global;
 /// the parameters of a method prints once for each declaration that lives, and is listed once where it is misread in any of these files. A
 /// name of what does not live is none of them: that it is gone is a fault of its own. The time is near-linear in the size of what is
 /// printed, but for what names cost. `Err` is want of memory.
-pub fn misread(alloc: Global, tidied: &Table) -> Result<List<Fault>, OutOfMemory>
+pub fn misread(alloc: Global, tidied: &ProgramIndex<'_>) -> Result<List<Fault>, OutOfMemory>
     ensures { IfOk result (λ faults. AreMisread tidied.now (map kept_fault faults)) }
 {
     let names = misread_names(alloc, tidied)?;

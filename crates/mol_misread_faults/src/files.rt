@@ -13,23 +13,22 @@ use mol_base::{Id, OutOfMemory};
 use mol_cells::is_living_class;
 use mol_class_members::ClassMembers;
 use mol_file_uses::{FileNames, MemberIndex, file_uses};
+use mol_program_index::ProgramIndex;
 use mol_simple_names::{SimpleNames, Uses};
 use mol_table::Slot;
 use std::alloc::Global;
 
-/// What is misread in the files of those classes among these identities that live. The index and the members are those of one table.
+/// What is misread in the files of those classes among these identities that live.
 pub(crate) fn names_in(
     alloc: Global,
-    index: &MemberIndex<'_>,
-    members: &ClassMembers<'_>,
+    program: &ProgramIndex<'_>,
     ids: &[Id],
 ) -> Result<Vec<MisreadName>, OutOfMemory>
-    requires { members.now ≡ index.now }
-    ensures { IfOk result (λ found. map kept_name found.items ≡ all_misreads index.now ids.now) }
+    ensures { IfOk result (λ found. map kept_name found.items ≡ all_misreads program.now ids.now) }
 {
     let mut found = Vec::new(alloc);
     for id in ids {
-        add_class(alloc, &mut found, index, members, id)?;
+        add_class(alloc, &mut found, program, id)?;
     }
     Ok(found)
 }
@@ -38,22 +37,36 @@ pub(crate) fn names_in(
 fn add_class(
     alloc: Global,
     found: &mut Vec<MisreadName>,
-    index: &MemberIndex<'_>,
-    members: &ClassMembers<'_>,
+    program: &ProgramIndex<'_>,
     id: &Id,
 ) -> Result<(), OutOfMemory>
-    requires { members.now ≡ index.now }
-    ensures { OnOk result (map kept_name found.new.items ≡ map kept_name found.old.items ++ class_misreads index.now id.now) }
+    ensures { OnOk result (map kept_name found.new.items ≡ map kept_name found.old.items ++ class_misreads program.now id.now) }
 {
-    if is_living_class(index.table(), id) {
-        add_file(alloc, found, index, members, id)
+    if is_living_class(program.table(), id) {
+        add_file(alloc, found, program, id)
     } else {
         Ok(())
     }
 }
 
-/// Adds what is misread in the file of a class: what its names use is gathered first, which decides what has a simple name.
+/// Adds what is misread in the file of a class: what its names use decides what has a simple name.
 fn add_file(
+    alloc: Global,
+    found: &mut Vec<MisreadName>,
+    program: &ProgramIndex<'_>,
+    class: &Id,
+) -> Result<(), OutOfMemory>
+    ensures { OnOk result (map kept_name found.new.items ≡ map kept_name found.old.items ++ file_misreads program.now class.now) }
+{
+    let (index, members) = (program.names(), program.members());
+    match program.uses_of(class) {
+        Some(uses) => add_by_uses(alloc, found, index, members, class, uses),
+        None => add_gathering(alloc, found, index, members, class),
+    }
+}
+
+/// The same where it is not kept what the names of the file use.
+fn add_gathering(
     alloc: Global,
     found: &mut Vec<MisreadName>,
     index: &MemberIndex<'_>,

@@ -8,10 +8,9 @@ ghost use Rattle.mol_table.specs.Program.{same_id};
 use crate::files::names_in;
 use mol_base::{Id, OutOfMemory, Text};
 use mol_body_misreads::Misread;
-use mol_class_members::ClassMembers;
 use mol_fault::Target;
-use mol_file_uses::MemberIndex;
-use mol_table::{Cell, Table};
+use mol_program_index::ProgramIndex;
+use mol_table::Cell;
 use std::alloc::Global;
 
 /// A name in a cell that reads as something else than what it is the name of, in the file of a class.
@@ -102,10 +101,11 @@ fn same_id(first: &Id, second: &Id) -> bool
 /// read as another thing in each of these files. The table is that of the program once it is tidied, as it is printed. A name of what
 /// does not live is none of them. The time is near-linear in the size of what is printed, but for what names cost. `Err` is want of
 /// memory.
-pub fn misread_names(alloc: Global, tidied: &Table) -> Result<Vec<MisreadName>, OutOfMemory>
+pub fn misread_names(
+    alloc: Global,
+    tidied: &ProgramIndex<'_>,
+) -> Result<Vec<MisreadName>, OutOfMemory>
     ensures { IfOk result (λ names. (found : Found) → Contains (map kept_name names.items) found ↔ IsMisread tidied.now found) }
 {
-    let index = MemberIndex::new(alloc, tidied)?;
-    let members = ClassMembers::new(alloc, tidied)?;
-    names_in(alloc, &index, &members, tidied.ids())
+    names_in(alloc, tidied, tidied.table().ids())
 }

@@ -69,17 +69,8 @@ module _ (program : Program) where
       record (unit_at program key) { path = sym (kept key (stands_first key keys)) i }
       ∷ same-files keys (λ x stands. kept x (stands_later key x keys stands)) i
 
-  files-spelt : (keys : List UnitKey) → keys ≡ as_set unit_key_cmp listed → map (unit_at program) keys ≡ units_of program
+  pub files-spelt : (keys : List UnitKey) → keys ≡ as_set unit_key_cmp listed → map (unit_at program) keys ≡ units_of program
   files-spelt keys are = ap (map (unit_at program)) are ∙ same-files (as_set unit_key_cmp listed) key-kept
-
--- The files that are made of the keys of a program once it is tidied are its spelling.
-pub spelled-as : {E : Type 0} (result : Result (List SpeltUnit) E) (program tidied index : Program) (keys : List Kept) → index ≡ tidied
-    → map key_of keys ≡ as_set unit_key_cmp (map (key_at tidied) (living_classes tidied)) → tidied ≡ tidy program
-    → IfOk result (λ units. map spelled_of units ≡ map (unit_at index) (map key_of keys))
-    → IfOk result (λ units. map spelled_of units ≡ spelling program)
-spelled-as result program tidied index keys same are is made =
-    subst (λ (files : List SpelledUnit). IfOk result (λ units. map spelled_of units ≡ files))
-    ((λ i. map (unit_at (same i)) (map key_of keys)) ∙ files-spelt tidied (map key_of keys) are ∙ ap units_of is) made
 
 -- The spelling of a program once it is tidied is its spelling.
 pub spelled-once_tidied : {E : Type 0} (result : Result (List SpeltUnit) E) (program tidied : Program) → tidied ≡ tidy program

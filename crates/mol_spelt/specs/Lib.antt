@@ -1,2 +1,3 @@
+pub use Rattle.mol_unit_keys.specs.Keys
 pub mod NamesOf
 pub mod Spelt

@@ -14,29 +14,40 @@ use mol_base::{Id, OutOfMemory};
 use mol_class_members::ClassMembers;
 use mol_declared::MemberIndex;
 use mol_file_uses::{FileNames, file_uses};
+use mol_program_index::ProgramIndex;
 use mol_simple_names::SimpleNames;
 use mol_unit_keys::UnitKey;
 use mol_units::UnitWriter;
 use mol_uses::Uses;
 use std::alloc::Global;
 
-/// The source file of a key.
-pub(crate) fn unit_of(
+/// The source file of a key: with its path, the tree of the class. Files are written of tidied tables, so this should be one. The time is
+/// near-linear in the size of what is printed, but for what names cost. `Err` is want of memory.
+pub fn file_of(
     alloc: Global,
-    index: &MemberIndex<'_>,
-    members: &ClassMembers<'_>,
+    program: &ProgramIndex<'_>,
     key: UnitKey,
 ) -> Result<SpeltUnit, OutOfMemory>
-    requires { members.now ≡ index.now }
-    ensures { IfOk result (λ unit. spelled_of unit ≡ unit_at index.now (key_of key)) }
+    ensures { IfOk result (λ unit. spelled_of unit ≡ unit_at program.now (key_of key)) }
 {
     let UnitKey { path, class } = key;
-    let unit = unit_tree(alloc, index, members, &class)?;
+    let unit = unit_tree(alloc, program, &class)?;
     Ok(SpeltUnit { class, path, unit })
 }
 
-/// The source file of a class as a tree: what its names use is gathered first, which decides what has a simple name.
-fn unit_tree(
+/// The source file of a class as a tree: what its names use decides what has a simple name.
+fn unit_tree(alloc: Global, program: &ProgramIndex<'_>, class: &Id) -> Result<Unit, OutOfMemory>
+    ensures { IfOk result (λ unit. unit ≡ unit_tree program.now class.now) }
+{
+    let (index, members) = (program.names(), program.members());
+    match program.uses_of(class) {
+        Some(uses) => tree_by_uses(alloc, index, members, class, uses),
+        None => tree_gathering(alloc, index, members, class),
+    }
+}
+
+/// The same where it is not kept what the names of the file use.
+fn tree_gathering(
     alloc: Global,
     index: &MemberIndex<'_>,
     members: &ClassMembers<'_>,

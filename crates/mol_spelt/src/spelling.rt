@@ -5,11 +5,10 @@ ghost use Rattle.mol_table.specs.Tidy.{tidy};
 ghost use Rattle.mol_spelt.specs.Spelt.{spelled_of, unit_at};
 ghost use Rattle.mol_unit_keys.specs.Keys.{key_of};
 
-use crate::file::unit_of;
+use crate::file::file_of;
 use crate::spelt_unit::SpeltUnit;
 use mol_base::{List, OutOfMemory};
-use mol_class_members::ClassMembers;
-use mol_declared::MemberIndex;
+use mol_program_index::ProgramIndex;
 use mol_table::Table;
 use mol_unit_keys::{UnitKey, unit_keys};
 use std::alloc::Global;
@@ -20,34 +19,40 @@ pub fn spell(alloc: Global, table: &Table) -> Result<List<SpeltUnit>, OutOfMemor
     ensures { IfOk result (λ units. map spelled_of units ≡ spelling table.now) }
 {
     let tidied = table.tidy(alloc)?;
-    spell_tidied(alloc, &tidied)
+    let index = ProgramIndex::new(alloc, &tidied)?;
+    spell_tidied(alloc, &index)
 }
 
-/// The source files of a table of which each value is tidied already, as it is of each program that sources read as. The answer is that of
-/// `spell`, and the table is not copied for it.
-pub fn spell_tidied(alloc: Global, table: &Table) -> Result<List<SpeltUnit>, OutOfMemory>
-    requires { tidy table.now ≡ table.now }
-    ensures { IfOk result (λ units. map spelled_of units ≡ spelling table.now) }
+/// The source files of a table of which each value is tidied already.
+fn spell_tidied(alloc: Global, program: &ProgramIndex<'_>) -> Result<List<SpeltUnit>, OutOfMemory>
+    requires { tidy program.now ≡ program.now }
+    ensures { IfOk result (λ units. map spelled_of units ≡ spelling program.now) }
 {
-    let index = MemberIndex::new(alloc, table)?;
-    let members = ClassMembers::new(alloc, table)?;
-    let keys = unit_keys(alloc, table)?;
-    units_of(alloc, &index, &members, keys)
+    let keys = file_keys(alloc, program)?;
+    units_of(alloc, program, keys)
+}
+
+/// The keys of the source files that a table is spelled as, in the order of the files, which `file_of` has one by one. Each value of the table
+/// is tidied already, as it is of each program that sources read as. The time is near-linear in the number of known identities. `Err` is want
+/// of memory.
+pub fn file_keys(alloc: Global, program: &ProgramIndex<'_>) -> Result<Vec<UnitKey>, OutOfMemory>
+    requires { tidy program.now ≡ program.now }
+    ensures { IfOk result (λ keys. map (unit_at program.now) (map key_of keys.items) ≡ spelling program.now) }
+{
+    unit_keys(alloc, program.table())
 }
 
 /// The files of these keys.
 fn units_of(
     alloc: Global,
-    index: &MemberIndex<'_>,
-    members: &ClassMembers<'_>,
+    program: &ProgramIndex<'_>,
     keys: Vec<UnitKey>,
 ) -> Result<List<SpeltUnit>, OutOfMemory>
-    requires { members.now ≡ index.now }
-    ensures { IfOk result (λ units. map spelled_of units ≡ map (unit_at index.now) (map key_of keys.items)) }
+    ensures { IfOk result (λ units. map spelled_of units ≡ map (unit_at program.now) (map key_of keys.items)) }
 {
     let mut units = List::new(alloc);
     for key in keys {
-        let unit = unit_of(alloc, index, members, key)?;
+        let unit = file_of(alloc, program, key)?;
         units.add(unit)?;
     }
     Ok(units)

@@ -1,5 +1,5 @@
 //! Bases that are clean programs.
-ghost use Rattle.std.specs.Prelude.{◌≡◌, IfErr, IfOk, OnOk, Some};
+ghost use Rattle.std.specs.Prelude.{◌≡◌, IfErr, IfOk, OnOk, Some, option_map};
 ghost use Rattle.std.specs.Option.{ForSome};
 ghost use Rattle.mol_fault.specs.Kept.{kept_fault};
 ghost use Rattle.mol_faults.specs.First.{IsFirst};
@@ -20,6 +20,7 @@ use mol_base::{File, OutOfMemory, Text};
 use mol_faults::{Fault, first_fault_of_tidied};
 use mol_outside::Files;
 use mol_program::read_program;
+use mol_program_index::ProgramIndex;
 use mol_report::fault_line;
 use mol_table::Table;
 use std::alloc::Global;
@@ -87,11 +88,20 @@ fn refuse_unclean(alloc: Global, table: &Table) -> Result<(), Refusal>
     ensures clean { OnOk result (Clean table.now) }
     ensures stop { IfErr result (IsRefusalOfProgram table.now) }
 {
-    match first_fault_of_tidied(alloc, table) {
+    match first_fault_in(alloc, table) {
         Ok(None) => Ok(()),
         Ok(Some(fault)) => Err(unclean(alloc, table, fault)),
         Err(OutOfMemory) => Err(Refusal::out_of_memory()),
     }
+}
+
+/// The first fault of a program, whose indexes are made.
+fn first_fault_in(alloc: Global, table: &Table) -> Result<Option<Fault>, OutOfMemory>
+    requires { tidy table.now ≡ table.now }
+    ensures { IfOk result (λ first. IsFirst table.now (option_map kept_fault first)) }
+{
+    let program = ProgramIndex::new(alloc, table)?;
+    first_fault_of_tidied(alloc, &program)
 }
 
 /// The refusal of a program for a fault. Its line names addresses of the program.

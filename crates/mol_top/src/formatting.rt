@@ -3,7 +3,8 @@ ghost use Rattle.std.specs.Prelude.{◌≡◌, IfErr, IfOk, map};
 ghost use Rattle.std.specs.Option.{ForSome};
 ghost use Rattle.mol_files.specs.Files.{file_pair, file_pairs};
 ghost use Rattle.mol_spelling.specs.PrintedFiles.{printed_text};
-ghost use Rattle.mol_spelt.specs.Spelt.{spelled_of};
+ghost use Rattle.mol_spelt.specs.Keys.{key_of};
+ghost use Rattle.mol_spelt.specs.Spelt.{spelled_of, unit_at};
 ghost use Rattle.mol_table.specs.Tidy.{tidy};
 ghost use Rattle.mol_top.specs.Answers.{store_status};
 ghost use Rattle.mol_top.specs.Carried.{Carries, CarriesOwn, IsInside, NoPath};
@@ -26,9 +27,10 @@ use crate::status::Status;
 use crate::store::{check_out, fitted};
 use jav_height::printed_height;
 use jav_print::print;
-use mol_base::{File, List, OutOfMemory, Text};
+use mol_base::{File, OutOfMemory, Text};
 use mol_outside::Files;
-use mol_spelt::{SpeltUnit, spell_tidied};
+use mol_program_index::ProgramIndex;
+use mol_spelt::{SpeltUnit, UnitKey, file_keys, file_of};
 use mol_table::Table;
 use std::alloc::Global;
 
@@ -88,18 +90,36 @@ fn program_files(alloc: Global, table: &Table) -> Result<ProgramFiles, OutOfMemo
     ensures texts { IfOk result (λ made. file_pairs made.texts.items ≡ program_texts table.now) }
     ensures heights { IfOk result (λ made. made.heights.items ≡ program_heights table.now) }
 {
-    let units = spell_tidied(alloc, table)?;
-    unit_files(alloc, units)
+    let program = ProgramIndex::new(alloc, table)?;
+    indexed_files(alloc, &program)
 }
 
-/// These files in the one layout. Each tree is let go of once its text is made, so that memory never holds all trees and all texts.
-fn unit_files(alloc: Global, units: List<SpeltUnit>) -> Result<ProgramFiles, OutOfMemory>
-    ensures texts { IfOk result (λ made. file_pairs made.texts.items ≡ map written_text (map printed_text (map spelled_of units))) }
-    ensures heights { IfOk result (λ made. made.heights.items ≡ map printed_height (map spelled_of units)) }
+/// The files of a program that has its indexes.
+fn indexed_files(alloc: Global, program: &ProgramIndex<'_>) -> Result<ProgramFiles, OutOfMemory>
+    requires { tidy program.now ≡ program.now }
+    ensures texts { IfOk result (λ made. file_pairs made.texts.items ≡ program_texts program.now) }
+    ensures heights { IfOk result (λ made. made.heights.items ≡ program_heights program.now) }
+{
+    let keys = file_keys(alloc, program)?;
+    files_of(alloc, program, keys)
+}
+
+/// The files of these keys in the one layout. Each is spelled and printed, and its tree let go of, before the next, so that memory never holds
+/// more than one tree beside the program and the texts.
+fn files_of(
+    alloc: Global,
+    program: &ProgramIndex<'_>,
+    keys: Vec<UnitKey>,
+) -> Result<ProgramFiles, OutOfMemory>
+    ensures texts { IfOk result (λ made. file_pairs made.texts.items
+        ≡ map written_text (map printed_text (map (unit_at program.now) (map key_of keys.items)))) }
+    ensures heights { IfOk result (λ made. made.heights.items
+        ≡ map printed_height (map (unit_at program.now) (map key_of keys.items))) }
 {
     let mut texts: Vec<File> = Vec::new(alloc);
     let mut heights: Vec<u32> = Vec::new(alloc);
-    for spelt in units.into_vec() {
+    for key in keys {
+        let spelt = file_of(alloc, program, key)?;
         let PrintedFile { file, height } = printed_file(alloc, spelt)?;
         texts.push(file)?;
         heights.push(height)?;

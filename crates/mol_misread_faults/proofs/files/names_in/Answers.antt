@@ -5,10 +5,10 @@ use Rattle.mol_ordered.proofs.Added.{adds-more, adds-whole}
 
 pub loop-id-preserved : goal.loop-id-preserved
 loop-id-preserved c =
-    adds-more (all_misreads c.args.index.now) (class_misreads c.args.index.now) refl (λ x rest. refl) c.args.ids.now c.loop-id.id-index
+    adds-more (all_misreads c.args.program.now) (class_misreads c.args.program.now) refl (λ x rest. refl) c.args.ids.now c.loop-id.id-index
     c.id-item.result _ _ _ c.loop-id-test.true c.id-item.is c.loop-id.invariant c.in_ok-add_class.ensures
 
 pub returns : goal.returns
 returns c =
-    adds-whole (all_misreads c.args.index.now) (class_misreads c.args.index.now) refl (λ x rest. refl) c.args.ids.now c.loop-id.id-index
+    adds-whole (all_misreads c.args.program.now) (class_misreads c.args.program.now) refl (λ x rest. refl) c.args.ids.now c.loop-id.id-index
     _ _ c.loop-id-test.false c.loop-id.invariant

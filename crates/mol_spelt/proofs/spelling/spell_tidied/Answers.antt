@@ -1,11 +1,14 @@
-use Rattle.std.proofs.Common.{◌∙◌, sym}
-use Rattle.mol_spelt.proofs.FilesSpelt.{spelled-as}
+use Rattle.std.proofs.Common.{◌≡◌, ◌∙◌, List, map}
+use Rattle.std.proofs.lemmas.Result.{IfOk-weaker}
+use Rattle.mol_spelling.specs.SpelledUnits.{spelling}
 use Rattle.mol_spelt.proofs.spelling.spell_tidied.Goals as goal
-
-pub units_of-requires : goal.units_of-requires
-units_of-requires c = c.in_ok-members.ensures ∙ sym c.in_ok-index.ensures
+use Rattle.mol_spelt.specs.Spelt.{spelled_of, unit_at}
+use Rattle.mol_spelt.specs.declared.spelt_unit.SpeltUnit.{SpeltUnit}
+use Rattle.mol_unit_keys.specs.Keys.{key_of}
 
 pub returns : goal.returns
 returns c =
-    spelled-as c.units_of.result c.args.table.now c.args.table.now c.in_ok-index.index c.in_ok-keys.keys.items c.in_ok-index.ensures
-    c.in_ok-keys.ensures (sym c.requires) c.units_of.ensures
+    let program = c.args.program.now in
+    let files = map (unit_at program) (map key_of c.in_ok-keys.keys.items) in
+    IfOk-weaker c.units_of.result (λ (units : List SpeltUnit). map spelled_of units ≡ files)
+    (λ (units : List SpeltUnit). map spelled_of units ≡ spelling program) (λ units are. are ∙ c.in_ok-keys.ensures) c.units_of.ensures

@@ -4,4 +4,4 @@ use Rattle.mol_spelt.specs.Spelt.{spelled_of, unit_at}
 use Rattle.mol_unit_keys.specs.Keys.{key_of}
 
 abbrev pub invariant-loop-key : goal.invariant-loop-key
-invariant-loop-key l = map spelled_of l.units ≡ map (unit_at l.index) (map key_of l.yielded)
+invariant-loop-key l = map spelled_of l.units ≡ map (unit_at l.program) (map key_of l.yielded)

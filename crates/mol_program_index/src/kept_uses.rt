@@ -1,0 +1,45 @@
+//! What the names of files use.
+ghost use Rattle.std.specs.Prelude.{◌≡◌, IfOk, OnOk};
+ghost use Rattle.mol_program_index.specs.KeptUses.{AreUses};
+
+use indexmap::IndexMap;
+use mol_base::{Id, OutOfMemory};
+use mol_cells::is_living_class;
+use mol_class_members::ClassMembers;
+use mol_file_uses::{MemberIndex, Uses, file_uses};
+use std::alloc::Global;
+
+/// What the names in the file of each class that lives use.
+pub(crate) fn kept_uses(
+    alloc: Global,
+    names: &MemberIndex<'_>,
+    members: &ClassMembers<'_>,
+) -> Result<IndexMap<Id, Uses>, OutOfMemory>
+    requires { members.now ≡ names.now }
+    ensures { IfOk result (λ kept. AreUses names.now kept.entries) }
+{
+    let mut kept = IndexMap::new(alloc);
+    for class in names.table().ids() {
+        if is_living_class(names.table(), class) {
+            keep_uses(alloc, &mut kept, names, members, class)?;
+        }
+    }
+    Ok(kept)
+}
+
+/// Keeps what the names in the file of a class use.
+fn keep_uses(
+    alloc: Global,
+    kept: &mut IndexMap<Id, Uses>,
+    names: &MemberIndex<'_>,
+    members: &ClassMembers<'_>,
+    class: &Id,
+) -> Result<(), OutOfMemory>
+    requires members { members.now ≡ names.now }
+    requires kept { AreUses names.now kept.old.entries }
+    ensures { OnOk result (AreUses names.now kept.new.entries) }
+{
+    let uses = file_uses(alloc, names, members, class)?;
+    kept.insert(*class, uses)?;
+    Ok(())
+}

@@ -1,0 +1,12 @@
+use Rattle.std.proofs.Common.{◌≡◌, map}
+use Rattle.mol_files.specs.Files.{file_pairs}
+use Rattle.mol_spelling.specs.PrintedFiles.{printed_text}
+use Rattle.mol_spelt.specs.Keys.{key_of}
+use Rattle.mol_spelt.specs.Spelt.{unit_at}
+use Rattle.mol_top.proofs.formatting.files_of.Given as goal
+use Rattle.mol_top.specs.Formatting.{printed_height, written_text}
+
+abbrev pub invariant-loop-key : goal.invariant-loop-key
+invariant-loop-key l =
+    (file_pairs l.texts.items ≡ map written_text (map printed_text (map (unit_at l.program) (map key_of l.yielded))))
+    × (l.heights.items ≡ map printed_height (map (unit_at l.program) (map key_of l.yielded)))
