@@ -1,5 +1,5 @@
 //! A text, seen as its bytes.
-ghost use Rattle.std.specs.Prelude.{◌≡◌, ◌≢◌, ◌<◌, ◌≤◌, ◌^◌, [], length, IfOk, IfErr, IfSome, string_bytes, IsUtf8, ◌==◌};
+ghost use Rattle.std.specs.Prelude.{◌≡◌, ◌≢◌, ◌<◌, ◌≤◌, ◌^◌, [], length, IfOk, IfErr, string_bytes, IsUtf8, ◌==◌};
 ghost use Rattle.std.specs.Str.Lossy.{utf8_valid_len};
 ghost use Rattle.std.proofs.Common.{rules};
 ghost use Rattle.std.specs.Cmp.{partial_order_from_own_ties};
@@ -20,7 +20,8 @@ const MOST_IN_PLACE: usize = 15;
 
 /// Bytes that are UTF-8. Contracts see the list of the bytes.
 ///
-/// A text of at most 15 bytes, as most names are, takes no memory besides itself: it is `short`, and nothing is `long`.
+/// A text made of a `str` of at most 15 bytes, as most names are, takes no memory besides itself: it is `short`, and nothing is
+/// `long`. One made of a `String` stays that `String`, of whatever length: it is `long`, and `short` is not used.
 #[derive(Drop)]
 pub struct Text {
     short: [u8; MOST_IN_PLACE],
