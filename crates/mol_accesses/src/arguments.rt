@@ -55,7 +55,7 @@ fn with_params(
 ) -> Result<List<Argument>, OutOfMemory>
     ensures { IfOk result (λ args. args ≡ with_params params.now values) }
 {
-    let mut args = List::new(alloc);
+    let mut args = List::with_capacity(alloc, params.len())?;
     for value in values.into_vec() {
         let place = args.items().len();
         if place >= params.len() {

@@ -42,7 +42,7 @@ impl<P: Places> BodyWriter<'_, P> {
         ensures { IfOk result (λ trees. GoesOn (statements_spelling (P.writer self.now.places.now) items.now) trees
             (locals_of locals.old) (locals_of locals.new)) }
     {
-        let mut trees = List::new(self.alloc);
+        let mut trees = List::with_capacity(self.alloc, items.len())?;
         for item in items {
             let tree = self.statement(locals, item)?;
             trees.add(tree)?;

@@ -120,7 +120,8 @@ impl<N: Names> ExprReader<'_, N> {
         ensures { IfOk result (λ values. Reads (all_of (N.reader self.now.names.now) (locals_of self.now.locals.now) items.now)
             values faults.old faults.new) }
     {
-        let mut values = Some(List::new(self.alloc));
+        let room = List::with_capacity(self.alloc, items.len())?;
+        let mut values = Some(room);
         for item in items {
             let value = self.value(faults, item, Stand::Alone)?;
             values = one_more(values, value)?;

@@ -45,7 +45,8 @@ fn read_all<N: Names>(
 ) -> Result<Option<List<Param>>, OutOfMemory>
     ensures { IfOk result (λ list. Reads (all_read ids.now (N.reader names.now) at params.now) list faults.old faults.new) }
 {
-    let mut list = Some(List::new(alloc));
+    let room = List::with_capacity(alloc, params.len())?;
+    let mut list = Some(room);
     for (id, param) in ids.iter().zip(params) {
         let read = names.read_type(alloc, faults, at, &param.ty)?;
         list = one_more(alloc, list, *id, param, read)?;

@@ -117,7 +117,8 @@ impl<N: Names> StmtReader<'_, N> {
         ensures { IfOk result (λ value. GoesOn (statements_of (N.reader self.now.names.now) items.now (locals_of locals.old))
             value (locals_of locals.old) (locals_of locals.new) faults.old faults.new) }
     {
-        let mut all = Some(List::new(self.alloc));
+        let room = List::with_capacity(self.alloc, items.len())?;
+        let mut all = Some(room);
         for item in items {
             let read = self.statement(locals, faults, item)?;
             all = parts::with_item(all, read)?;

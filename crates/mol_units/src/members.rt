@@ -19,8 +19,9 @@ impl<F: FileNames> UnitWriter<'_, F> {
         ensures { let program = self.now.index.now in let class = self.now.class in
             IfOk result (λ trees. trees ≡ filter_map (spelled_member program class) (members_of program class)) }
     {
-        let mut trees = List::new(self.alloc);
-        for member in self.members.members_of(&self.class) {
+        let members = self.members.members_of(&self.class);
+        let mut trees = List::with_capacity(self.alloc, members.len())?;
+        for member in members {
             let tree = self.member(member)?;
             add_member(&mut trees, tree)?;
         }

@@ -57,7 +57,7 @@ pub(crate) fn param_trees<P: Places>(
 ) -> Result<List<ParamName>, OutOfMemory>
     ensures { IfOk result (λ trees. trees ≡ map (param_tree (P.writer places.now)) params.now) }
 {
-    let mut trees = List::new(alloc);
+    let mut trees = List::with_capacity(alloc, params.len())?;
     for param in params {
         let tree = param_tree(alloc, places, param)?;
         trees.add(tree)?;

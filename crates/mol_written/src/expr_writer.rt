@@ -90,7 +90,7 @@ impl<N: Names> ExprWriter<'_, N> {
         ensures { IfOk result (λ trees. trees
             ≡ map (tree_of (N.writer self.now.names.now) (N.locals self.now.names.now)) items.now) }
     {
-        let mut trees = List::new(self.alloc);
+        let mut trees = List::with_capacity(self.alloc, items.len())?;
         for item in items {
             let tree = self.expr(item)?;
             trees.add(tree)?;
@@ -104,7 +104,7 @@ impl<N: Names> ExprWriter<'_, N> {
         ensures { IfOk result (λ trees. trees
             ≡ map (argument_tree (N.writer self.now.names.now) (N.locals self.now.names.now)) args.now) }
     {
-        let mut trees = List::new(self.alloc);
+        let mut trees = List::with_capacity(self.alloc, args.len())?;
         for arg in args {
             let tree = self.expr(&arg.value)?;
             trees.add(tree)?;

@@ -3,7 +3,7 @@ use Rattle.mol_accesses.proofs.MoreArguments.{argument-more, argument-none, none
 use Rattle.mol_accesses.proofs.arguments.with_params.Goals as goal
 
 pub loop-value-init : goal.loop-value-init
-loop-value-init c = c.new-args.ensures ∙ none-given c.args.params.now
+loop-value-init c = c.in_ok-args.ensures ∙ none-given c.args.params.now
 
 pub loop-value-preserved-then-place-params : goal.loop-value-preserved-then-place-params
 loop-value-preserved-then-place-params c = c.loop-value.invariant

@@ -29,7 +29,7 @@ block-returns g t c =
 pub statements-loop-item-init : goal.statements-loop-item-init
 statements-loop-item-init g t c =
     let writer = g.P.Places.writer c.args.self.now.places.now in
-    each_none (stmt_spelling writer) c.new-trees.result (locals_of c.args.locals.now) c.new-trees.ensures
+    each_none (stmt_spelling writer) c.in_ok-trees.trees (locals_of c.args.locals.now) c.in_ok-trees.ensures
 
 pub statements-loop-item-preserved : goal.statements-loop-item-preserved
 statements-loop-item-preserved g t c =

@@ -28,7 +28,7 @@ block-returns g t c =
 pub statements-loop-item-init : goal.statements-loop-item-init
 statements-loop-item-init g t c =
     each_read-none (statement_of (g.N.Names.reader c.args.self.now.names.now)) c.args.items.now _ _ _
-    (ap (λ items. Some items) c.new.ensures)
+    (ap (λ items. Some items) c.in_ok-room.ensures)
 
 pub statements-loop-item-preserved : goal.statements-loop-item-preserved
 statements-loop-item-preserved g t c =
