@@ -52,7 +52,7 @@ impl<'a, P: Places> BodyReader<'a, '_, P> {
             Value::Words(_) => Ok(()),
             Value::Notes(_) => Ok(()),
             Value::Body(body) => self.note_maybe_body(misreads, body),
-            Value::Value(ty, init) => self.note_first_value(misreads, ty, init),
+            Value::Value(ty, init) => self.note_first_value(misreads, ty, init.get()),
         }
     }
 

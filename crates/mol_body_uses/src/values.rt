@@ -42,7 +42,7 @@ impl<P: Places> BodyUses<'_, P> {
             Value::Words(_) => Ok(()),
             Value::Notes(_) => Ok(()),
             Value::Body(body) => self.add_maybe_body(uses, body),
-            Value::Value(ty, init) => self.add_first_value(uses, ty, init),
+            Value::Value(ty, init) => self.add_first_value(uses, ty, init.get()),
         }
     }
 

@@ -23,7 +23,7 @@ fn add_value(classes: &mut Vec<Id>, value: &Value) -> Result<(), OutOfMemory>
 {
     match value {
         Value::Body(Some(body)) => add_block(classes, &body.block),
-        Value::Value(_, init) => add_maybe(classes, init),
+        Value::Value(_, init) => add_maybe(classes, init.get()),
         _ => Ok(()),
     }
 }

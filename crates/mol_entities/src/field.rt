@@ -7,7 +7,7 @@ ghost use Rattle.mol_values.specs.declared.value.Value.TheVariants as values;
 
 use crate::words::Front;
 use jav_tree::Field;
-use mol_base::{Id, List, OutOfMemory};
+use mol_base::{Boxed, Id, List, OutOfMemory};
 use mol_table::NewEntity;
 use mol_values::{IExpr, IType, Kind, Value};
 use std::alloc::Global;
@@ -24,7 +24,7 @@ pub fn field_entity(
 ) -> Result<NewEntity, OutOfMemory>
     ensures { IfOk result (λ entity. entity ≡ field_entity id owner field.now ty init) }
 {
-    let value = Value::Value(ty, init);
+    let value = Value::Value(ty, Boxed::new(alloc, init)?);
     with_value(alloc, id, owner, field, value)
 }
 

@@ -39,7 +39,7 @@ fn add_value(mentions: &mut Mentions, value: &Value) -> Result<(), OutOfMemory>
         Value::Words(_) => Ok(()),
         Value::Notes(_) => Ok(()),
         Value::Body(body) => add_body(mentions, body),
-        Value::Value(ty, init) => add_field(mentions, ty, init),
+        Value::Value(ty, init) => add_field(mentions, ty, init.get()),
     }
 }
 

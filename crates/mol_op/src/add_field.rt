@@ -7,7 +7,7 @@ use crate::copies::copy_value;
 use crate::mentions::{Seen, check_maybe, check_type};
 use crate::writes::rules;
 use crate::{ApplyFault, OpFault, Operation};
-use mol_base::{Id, List, OutOfMemory, Tag, Text};
+use mol_base::{Boxed, Id, List, OutOfMemory, Tag, Text};
 use mol_table::{IExpr, IType, Kind, Known, NewEntity, Notes, Table, Value, Words};
 use std::alloc::Global;
 
@@ -84,7 +84,8 @@ impl AddField {
         values.add(Value::Words(self.words.copy(alloc)?))?;
         values.add(Value::Notes(self.notes.copy(alloc)?))?;
         let ty = self.ty.copy(alloc)?;
-        values.add(Value::Value(ty, copy_value(alloc, &self.value)?))?;
+        let value = Boxed::new(alloc, copy_value(alloc, &self.value)?)?;
+        values.add(Value::Value(ty, value))?;
         let mut entities = List::new(alloc);
         entities.add(NewEntity {
             id: self.field,

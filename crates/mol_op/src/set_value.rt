@@ -7,7 +7,7 @@ use crate::copies::copy_value;
 use crate::mentions::{Seen, check_maybe, check_type};
 use crate::writes::set_cell;
 use crate::{ApplyFault, OpFault, Operation};
-use mol_base::{Id, OutOfMemory, Tag};
+use mol_base::{Boxed, Id, OutOfMemory, Tag};
 use mol_table::{IExpr, IType, Table, Value};
 use std::alloc::Global;
 
@@ -50,7 +50,7 @@ impl Operation for SetValue {
     fn apply(&self, alloc: Global, tag: Tag, table: &mut Table) -> Result<(), ApplyFault> {
         self.applies(tag, table)?;
         let ty = self.ty.copy(alloc)?;
-        let value = copy_value(alloc, &self.value)?;
+        let value = Boxed::new(alloc, copy_value(alloc, &self.value)?)?;
         set_cell(table, &self.field, Value::Value(ty, value));
         Ok(())
     }

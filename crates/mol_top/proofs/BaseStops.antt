@@ -16,7 +16,7 @@ use Rattle.mol_top.specs.Outcome.{ByNames, IsAddressesLine, Refuses}
 use Rattle.mol_top.specs.Outside.{Store}
 use Rattle.mol_top.specs.Prepared.{IsStopped}
 use Rattle.mol_top.specs.Refusals.{AreBaseFiles}
-use Rattle.mol_top.specs.Refused.{IsForFile, IsForMemory, IsForProgram, IsRefusalOfFiles}
+use Rattle.mol_top.specs.Refused.{IsForFile, IsForMemory, IsRefusalOfFiles, IsRefusalOfProgram}
 use Rattle.mol_top.specs.Report.{line_bytes, names_addresses, refusal_line}
 use Rattle.mol_top.specs.Steps.{IsBelow, IsNamed, StopsBase, StopsBy}
 use Rattle.mol_top.specs.UncleanLines.{IsProgramLine}
@@ -93,41 +93,39 @@ refuse_files files status is = record { place = is.place; fault = is.fault; wron
 refuse_program : (program : Program) (status : Status) (is : RefuseProgram program status) → RefuseProgram program (BaseRefused (Unclean is.fault))
 refuse_program program status is = record { fault = is.fault; first = is.first; is = refl }
 
-module _ (base : List ℕ) (old new : Store) (read : List File) (are : ForSome old.held (λ h. AreBaseFiles base h read)) (refusal : Refusal) where
+module _ (base : List ℕ) (old new : Store) where
   abbrev stops : Status → Type 0
   stops = StopsBy (IsBelow base old.held) old new (BaseRefuses base)
 
-  for-memory : IsForMemory refusal → IsBaseStopped base old new refusal
-  for-memory is = record {
+  pub for-memory : (refusal : Refusal) → IsForMemory refusal → IsBaseStopped base old new refusal
+  for-memory refusal is = record {
     cause = subst stops (sym is.status) tt;
     line = plain-line base old refusal (ap names_addresses is.status) (is.line ∙ ap refusal_line (sym is.status));
   }
 
+module _ (base : List ℕ) (old new : Store) (read : List File) (are : ForSome old.held (λ h. AreBaseFiles base h read)) (refusal : Refusal) where
   for-file : IsForFile (file_pairs read) refusal → IsBaseStopped base old new refusal
   for-file is =
       let said : Status = BaseRefused (Source is.refused.place is.refused.fault) in
       record {
-        cause = subst stops (sym is.refused.is)
+        cause = subst (stops base old new) (sym is.refused.is)
             (λ h e. BaseRefuses.files (are h e).allowed (subst (λ (files : List FilePair). RefuseFiles files said) (are h e).are
             (refuse_files (file_pairs read) refusal.status is.refused)));
         line = plain-line base old refusal (ap names_addresses is.refused.is) is.line;
       }
 
-  base-of : (is : IsForProgram (file_pairs read) refusal) → ForSome old.held (λ h. IsBaseOf base h is.program)
-  base-of is = λ h e. record {
-    read = (are h e).allowed;
-    read_as = subst (λ (files : List FilePair). IsReadAs files is.program) (are h e).are is.read;
-  }
-
-  for-program : IsForProgram (file_pairs read) refusal → IsBaseStopped base old new refusal
-  for-program is = record {
-    cause = subst stops (sym is.refused.refused.is)
-        (λ h e. BaseRefuses.unclean is.program (base-of is h e) (refuse_program is.program refusal.status is.refused.refused));
-    line = subst (λ b. HasBaseLineBy b base old refusal) (sym (ap names_addresses is.refused.refused.is))
-        (λ h e. record { program = is.program; base_of = base-of is h e; is = is.refused.line });
-  }
-
   pub files_stopped : IsRefusalOfFiles (file_pairs read) refusal → IsBaseStopped base old new refusal
-  files_stopped (inl memory) = for-memory memory
-  files_stopped (inr (inl file)) = for-file file
-  files_stopped (inr (inr program)) = for-program program
+  files_stopped (inl memory) = for-memory base old new refusal memory
+  files_stopped (inr file) = for-file file
+
+-- # The program of a base is refused
+
+module _ (base : List ℕ) (old new : Store) (program : Program) (of : ForSome old.held (λ h. IsBaseOf base h program)) (refusal : Refusal) where
+  pub program_stopped : IsRefusalOfProgram program refusal → IsBaseStopped base old new refusal
+  program_stopped (inl memory) = for-memory base old new refusal memory
+  program_stopped (inr fault) = record {
+    cause = subst (stops base old new) (sym fault.refused.is)
+        (λ h e. BaseRefuses.unclean program (of h e) (refuse_program program refusal.status fault.refused));
+    line = subst (λ b. HasBaseLineBy b base old refusal) (sym (ap names_addresses fault.refused.is))
+        (λ h e. record { program = program; base_of = of h e; is = fault.line });
+  }

@@ -1,19 +1,25 @@
 -- What `check` makes of a base.
 use Rattle.std.proofs.Common.{◌≡◌, ℕ, refl, List, length, ap}
 use Rattle.std.specs.Option.{ForSome}
+use Rattle.mol_spelling.specs.Clean.{Clean}
+use Rattle.mol_table.specs.Rules.{IsProgram as KeepsRules}
 use Rattle.mol_top.specs.Checking.{check_outcome}
 use Rattle.mol_top.specs.CleanBases.{IsReadOf}
 use Rattle.mol_top.specs.Command.{CheckWords, Command}
 use Rattle.mol_top.specs.Output.{IsWork}
 use Rattle.mol_top.specs.Outside.{Store}
 use Rattle.mol_top.specs.Prepared.{Prepares}
-use Rattle.mol_top.specs.declared.clean_base.CleanBase.{CleanBase}
+use Rattle.mol_top.specs.declared.clean_base.BaseProgram.{BaseProgram}
 use Rattle.mol_top.specs.declared.output.Work.{Work}
 
-pub check_prepared : (w : CheckWords) (old : Store) (read : CleanBase) (work : Work) → ForSome old.held (λ h. IsReadOf w.base h read)
-    → IsWork work (check_outcome read.files) → Prepares (Command.check w) old work
-check_prepared w old read work are is = λ h e. record {
+pub check_prepared : (w : CheckWords) (old : Store) (read : BaseProgram) (work : Work) → ForSome old.held (λ h. IsReadOf w.base h read)
+    → KeepsRules read.table → Clean read.table → IsWork work (check_outcome read.files) → Prepares (Command.check w) old work
+check_prepared w old read work are rules clean is = λ h e. record {
   outcome = check_outcome read.files;
-  comes = record { program = read.table; base = (are h e).program; is = ap check_outcome (are h e).files };
+  comes = record {
+    program = read.table;
+    base = record { is = (are h e).program; rules = rules; clean = clean };
+    is = ap check_outcome (are h e).files;
+  };
   is = is;
 }

@@ -3,17 +3,22 @@ use Rattle.std.proofs.Common.{◌≡◌, ◌⊎◌, inl, inr, ℕ, refl, sym, �
 use Rattle.std.specs.Prelude.{None, Some}
 use Rattle.std.specs.Option.{ForSome}
 use Rattle.mol_outside.specs.Contents.{Contents}
+use Rattle.mol_spelling.specs.Clean.{Clean}
 use Rattle.mol_table.specs.Program.{Program}
+use Rattle.mol_table.specs.Rules.{IsProgram as KeepsRules}
+use Rattle.mol_top.proofs.BaseStops.{base_stopped, program_stopped}
 use Rattle.mol_top.proofs.Carrying.{Carries-more}
+use Rattle.mol_top.proofs.ReadBases.{base_carries, unclean_carries}
 use Rattle.mol_top.proofs.Stopping.{either_stops, plain_line, said_plain, store_plain}
 use Rattle.mol_top.specs.Answers.{limit_status, store_status}
-use Rattle.mol_top.specs.Bases.{IsCleanBase}
+use Rattle.mol_top.specs.Bases.{IsBaseOf, IsCleanBase}
 use Rattle.mol_top.specs.Carried.{Carries, CarriesOwn, IsInOut, IsInput, IsInside, IsRead, NoPath}
 use Rattle.mol_top.specs.Command.{Command, FmtWords, fmt_paths}
 use Rattle.mol_top.specs.Formatting.{FmtRefuses, MakesFiles, fmt_outcome, output_refusal, program_heights, program_texts}
 use Rattle.mol_top.specs.Output.{texts_refusal}
 use Rattle.mol_top.specs.Outside.{OnlyReads, Store}
 use Rattle.mol_top.specs.Prepared.{IsStopped, Prepares, StopsCommand}
+use Rattle.mol_top.specs.ProgramWork.{IsCleanWork, IsProgramStopped}
 use Rattle.mol_top.specs.Refusals.{out_refusal}
 use Rattle.mol_top.specs.Report.{line_bytes, refusal_line}
 use Rattle.mol_top.specs.Steps.{Only, Stops}
@@ -81,3 +86,26 @@ fmt_carries w fault said carried (inl is) =
     (Carries-more (IsRead paths) (Only w.out) (IsInput paths) NoPath (IsInOut paths) (IsInside w.out) (store_status fault)
     (λ path only. inr (ap Some (sym only))) (λ path none. absurd none) (λ path below. below) carried)
 fmt_carries w fault said carried (inr is) = subst (CarriesOwn (fmt_paths w)) (sym is) tt
+
+-- # The program of a base, clean or not
+
+module _ (w : FmtWords) (old : Store) (program : Program) (of : ForSome old.held (λ h. IsBaseOf w.base h program)) (rules : KeepsRules program) where
+  clean_base : Clean program → ForSome old.held (λ h. IsCleanBase w.base h program)
+  clean_base clean = λ h e. record { is = of h e; rules = rules; clean = clean }
+
+  pub work_prepared : (mid : Store) (work : Work) → OnlyReads old mid → IsCleanWork w.out program mid work → Prepares (Command.fmt w) old work
+  work_prepared mid work before is = fmt_prepared w old program (clean_base is.clean) mid work before is.made
+
+  pub work_stopped : (mid new : Store) (refusal : Refusal) → OnlyReads old mid → IsProgramStopped w.out program mid new refusal
+      → IsStopped (Command.fmt w) old new refusal
+  work_stopped mid new refusal before (inl unclean) =
+      base_stopped (Command.fmt w) w.base old new refusal (λ h s refuses. FmtRefuses.base refuses) (λ h s line is. is) (λ path below. inl below)
+      (program_stopped w.base old new program of refusal unclean)
+  work_stopped mid new refusal before (inr files) =
+      fmt_stopped w old program (clean_base files.clean) mid new files.fault refusal before files.stops files.status files.line
+
+pub work_carries : (w : FmtWords) (program : Program) (old new : Store) (refusal : Refusal) → IsProgramStopped w.out program old new refusal
+    → CarriesOwn (fmt_paths w) refusal.status
+work_carries w program old new refusal (inl unclean) =
+    base_carries (fmt_paths w) refusal.status (unclean_carries w.base program refusal unclean)
+work_carries w program old new refusal (inr files) = fmt_carries w files.fault refusal.status files.carries files.status

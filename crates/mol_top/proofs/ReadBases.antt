@@ -1,4 +1,4 @@
--- What the reading of a base answers: a clean program or a refusal, and what these carry.
+-- What the reading of a base answers: a program or a refusal, and what these carry.
 use Rattle.std.proofs.Common.{◌≡◌, ◌⊎◌, inl, inr, ℕ, List, length, sym, ◌∙◌, ap, subst}
 use Rattle.mol_base.specs.declared.file.File.{File}
 use Rattle.mol_files.specs.Files.{FilePair, file_pairs}
@@ -10,27 +10,23 @@ use Rattle.mol_table.specs.Program.{Program}
 use Rattle.mol_top.proofs.Carrying.{Carries-more}
 use Rattle.mol_top.specs.Answers.{read_status, store_status}
 use Rattle.mol_top.specs.Carried.{CarriesOwn, CarriesRead, IsInOut, IsInput, IsRead, IsSourcePath, NoPath}
-use Rattle.mol_top.specs.CleanBases.{CarriesBase, IsCleanOf, IsReadOf}
+use Rattle.mol_top.specs.CleanBases.{CarriesBase, IsProgramOf, IsReadOf}
 use Rattle.mol_top.specs.Command.{NamedPaths}
 use Rattle.mol_top.specs.Refusals.{AreBaseFiles}
 use Rattle.mol_top.specs.Refused.{IsForMemory, IsRefusalOfFiles, IsRefusalOfProgram}
 use Rattle.mol_top.specs.Report.{line_bytes, refusal_line}
-use Rattle.mol_top.specs.declared.clean_base.CleanBase.{CleanBase}
+use Rattle.mol_top.specs.declared.clean_base.BaseProgram.{BaseProgram}
 use Rattle.mol_top.specs.declared.fault.StoreFault.{StoreFault}
 use Rattle.mol_top.specs.declared.refusal.Refusal.{Refusal}
 use Rattle.mol_top.specs.declared.status.Status.{Status}
 use Rattle.mol_top.specs.declared.status.Status.TheVariants.{OutOfMemory}
 
--- # A clean program
+-- # A program
 
-pub clean_read : (base : List ℕ) (h : Contents) (read : List File) (made : CleanBase) → AreBaseFiles base h read
-    → IsCleanOf (file_pairs read) made → IsReadOf base h made
-clean_read base h read made are is = record {
-  program = record {
-    is = record { read = are.allowed; read_as = subst (λ (files : List FilePair). IsReadAs files made.table) are.are is.read_as };
-    rules = is.rules;
-    clean = is.clean;
-  };
+pub program_read : (base : List ℕ) (h : Contents) (read : List File) (made : BaseProgram) → AreBaseFiles base h read
+    → IsProgramOf (file_pairs read) made → IsReadOf base h made
+program_read base h read made are is = record {
+  program = record { read = are.allowed; read_as = subst (λ (files : List FilePair). IsReadAs files made.table) are.are is.read_as };
   files = is.count ∙ ap length are.are;
 }
 
@@ -44,16 +40,10 @@ pub wrong_files : (files : List FilePair) (fault : ReadFault) (refusal : Refusal
     → (refusal.status ≡ read_status fault) ⊎ (refusal.status ≡ OutOfMemory) → line_bytes refusal.line ≡ refusal_line refusal.status
     → IsRefusalOfFiles files refusal
 wrong_files files (reads.Refused place fault) refusal wrong (inl is) line =
-    inr (inl (record { refused = record { place = place; fault = fault; wrong = wrong; is = is }; line = line }))
+    inr (record { refused = record { place = place; fault = fault; wrong = wrong; is = is }; line = line })
 wrong_files files (reads.Refused place fault) refusal wrong (inr is) line = inl (memory refusal is line)
 wrong_files files reads.OutOfMemory refusal wrong (inl is) line = inl (memory refusal is line)
 wrong_files files reads.OutOfMemory refusal wrong (inr is) line = inl (memory refusal is line)
-
--- files that are a program, which is not clean
-pub unclean_files : (files : List FilePair) (program : Program) (refusal : Refusal) → IsReadAs files program
-    → IsRefusalOfProgram program refusal → IsRefusalOfFiles files refusal
-unclean_files files program refusal read (inl none) = inl none
-unclean_files files program refusal read (inr fault) = inr (inr (record { program = program; read = read; refused = fault }))
 
 -- # What is carried
 
@@ -65,8 +55,12 @@ unread_carries base fault said carried (inr is) = subst (CarriesBase base) (sym 
 pub refused_carries : (base : List ℕ) (files : List FilePair) (refusal : Refusal) → IsRefusalOfFiles files refusal
     → CarriesBase base refusal.status
 refused_carries base files refusal (inl none) = subst (CarriesBase base) (sym none.status) tt
-refused_carries base files refusal (inr (inl file)) = subst (CarriesBase base) (sym file.refused.is) tt
-refused_carries base files refusal (inr (inr program)) = subst (CarriesBase base) (sym program.refused.refused.is) tt
+refused_carries base files refusal (inr file) = subst (CarriesBase base) (sym file.refused.is) tt
+
+pub unclean_carries : (base : List ℕ) (program : Program) (refusal : Refusal) → IsRefusalOfProgram program refusal
+    → CarriesBase base refusal.status
+unclean_carries base program refusal (inl none) = subst (CarriesBase base) (sym none.status) tt
+unclean_carries base program refusal (inr fault) = subst (CarriesBase base) (sym fault.refused.is) tt
 
 -- a command names its base
 pub base_carries : (paths : NamedPaths) (status : Status) → CarriesBase paths.base status → CarriesOwn paths status

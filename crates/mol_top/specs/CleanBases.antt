@@ -1,32 +1,28 @@
--- What is read of a base that is a clean program, and what stops the reading.
+-- What is read of a base that is a program, and what stops the reading.
 use Rattle.std.specs.Prelude.{◌≡◌, ℕ, Bool, true, false, List, length}
 use Rattle.std.specs.Option.{ForSome}
 use Rattle.mol_files.specs.Files.{FilePair}
 use Rattle.mol_outside.specs.Contents.{Contents}
 use Rattle.mol_program.specs.Programs.{IsReadAs}
-use Rattle.mol_spelling.specs.Clean.{Clean}
-use Rattle.mol_table.specs.Rules.{IsProgram as KeepsRules}
-use Rattle.mol_top.specs.Bases.{BaseRefuses, IsCleanBase}
+use Rattle.mol_top.specs.Bases.{BaseRefuses, IsBaseOf}
 use Rattle.mol_top.specs.Carried.{Carries, IsSourcePath, NoPath}
 use Rattle.mol_top.specs.Files.{base_files}
 use Rattle.mol_top.specs.Outside.{Store}
 use Rattle.mol_top.specs.Report.{line_bytes, names_addresses, refusal_line}
 use Rattle.mol_top.specs.Steps.{IsBelow, StopsBy}
 use Rattle.mol_top.specs.UncleanLines.{IsProgramLine}
-use Rattle.mol_top.specs.declared.clean_base.CleanBase.{CleanBase}
+use Rattle.mol_top.specs.declared.clean_base.BaseProgram.{BaseProgram}
 use Rattle.mol_top.specs.declared.refusal.Refusal.{Refusal}
 use Rattle.mol_top.specs.declared.status.Status.{Status}
 
--- it is the clean program that these files read as, and their number
-pub record IsCleanOf (files : List FilePair) (read : CleanBase) : Type 0 where
+-- it is the program that these files read as, and their number
+pub record IsProgramOf (files : List FilePair) (read : BaseProgram) : Type 0 where
   pub read_as : IsReadAs files read.table
-  pub rules : KeepsRules read.table
-  pub clean : Clean read.table
   pub count : read.files ≡ length files
 
--- it is the clean program of a base, and the number of its files
-pub record IsReadOf (base : List ℕ) (held : Contents) (read : CleanBase) : Type 0 where
-  pub program : IsCleanBase base held read.table
+-- it is the program of a base, and the number of its files
+pub record IsReadOf (base : List ℕ) (held : Contents) (read : BaseProgram) : Type 0 where
+  pub program : IsBaseOf base held read.table
   pub files : read.files ≡ length (base_files base held)
 
 -- the line of a refusal of a base, over what a store holds, where it tells: of one that names addresses, over the program of the base

@@ -1,7 +1,6 @@
 -- Refusals of files and programs, each with its line.
 use Rattle.std.specs.Prelude.{◌≡◌, ◌⊎◌, List}
 use Rattle.mol_files.specs.Files.{FilePair}
-use Rattle.mol_program.specs.Programs.{IsReadAs}
 use Rattle.mol_table.specs.Program.{Program}
 use Rattle.mol_top.specs.Bases.{RefuseFiles, RefuseProgram}
 use Rattle.mol_top.specs.Report.{line_bytes, refusal_line}
@@ -28,11 +27,5 @@ pub record IsForFile (files : List FilePair) (refusal : Refusal) : Type 0 where
   pub refused : RefuseFiles files refusal.status
   pub line : line_bytes refusal.line ≡ refusal_line refusal.status
 
--- files that are a program are refused as the program is
-pub record IsForProgram (files : List FilePair) (refusal : Refusal) : Type 0 where
-  pub program : Program
-  pub read : IsReadAs files program
-  pub refused : IsForFault program refusal
-
 abbrev pub IsRefusalOfFiles : List FilePair → Refusal → Type 0
-IsRefusalOfFiles files refusal = IsForMemory refusal ⊎ IsForFile files refusal ⊎ IsForProgram files refusal
+IsRefusalOfFiles files refusal = IsForMemory refusal ⊎ IsForFile files refusal

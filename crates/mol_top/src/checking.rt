@@ -8,7 +8,7 @@ ghost use Rattle.mol_top.specs.Outside.{OnlyReads, store};
 ghost use Rattle.mol_top.specs.Prepared.{IsStopped, Prepares};
 ghost use Rattle.mol_top.specs.Words.{check_command, check_words};
 
-use crate::clean_base::read_clean_base;
+use crate::clean_base::{read_base_program, refuse_unclean_table, rules};
 use crate::command::CheckWords;
 use crate::output::Work;
 use crate::refusal::Refusal;
@@ -19,7 +19,7 @@ use std::alloc::Global;
 
 /// What `check` prints. It writes nothing.
 ///
-/// Refuses what `read_clean_base` refuses.
+/// Refuses what `read_base_program` refuses, and then a program that is not clean, for its first fault.
 pub fn prepare_check<F: Files>(
     alloc: Global,
     words: CheckWords<'_>,
@@ -31,7 +31,9 @@ pub fn prepare_check<F: Files>(
     ensures stop { IfErr result (IsStopped (check_command words.entry) (store F.Files files.old) (store F.Files files.new)) }
     ensures carries { IfErr result (λ refusal. CarriesOwn (check_paths (check_words words.entry)) refusal.status) }
 {
-    let base = read_clean_base(alloc, words.base, files)?;
+    let base = read_base_program(alloc, words.base, files)?;
+    rules(&base.table);
+    refuse_unclean_table(alloc, &base.table)?;
     match check_work(alloc, base.files) {
         Ok(work) => Ok(work),
         Err(OutOfMemory) => Err(Refusal::out_of_memory()),

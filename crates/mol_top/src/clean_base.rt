@@ -1,5 +1,5 @@
-//! Bases that are clean programs.
-ghost use Rattle.std.specs.Prelude.{◌≡◌, IfErr, IfOk, OnOk, Some, option_map};
+//! Bases that are programs, and whether these are clean.
+ghost use Rattle.std.specs.Prelude.{◌≡◌, IfErr, IfOk, OnOk, Some};
 ghost use Rattle.std.specs.Option.{ForSome};
 ghost use Rattle.mol_fault.specs.Kept.{kept_fault};
 ghost use Rattle.mol_faults.specs.First.{IsFirst};
@@ -8,7 +8,7 @@ ghost use Rattle.mol_report.specs.FaultText.{fault_text};
 ghost use Rattle.mol_spelling.specs.Clean.{Clean};
 ghost use Rattle.mol_table.specs.Rules.{IsProgram as KeepsRules};
 ghost use Rattle.mol_table.specs.Tidy.{tidy};
-ghost use Rattle.mol_top.specs.CleanBases.{CarriesBase, IsBaseStopped, IsCleanOf, IsReadOf};
+ghost use Rattle.mol_top.specs.CleanBases.{CarriesBase, IsBaseStopped, IsProgramOf, IsReadOf};
 ghost use Rattle.mol_top.specs.Outside.{OnlyReads, store};
 ghost use Rattle.mol_top.specs.Refused.{IsRefusalOfFiles, IsRefusalOfProgram};
 ghost use Rattle.mol_top.specs.Report.{base_line};
@@ -25,24 +25,23 @@ use mol_report::fault_line;
 use mol_table::Table;
 use std::alloc::Global;
 
-/// The clean program that the sources below a folder are.
+/// The program that the sources below a folder are.
 #[derive(Drop)]
-pub struct CleanBase {
+pub struct BaseProgram {
     pub table: Table,
     /// How many files there are.
     pub files: usize,
 }
 
-/// The program of a base.
+/// The program of a base, clean or not.
 ///
-/// Refuses, in this order, what the reading of a base refuses, the first file that is no source, the first fault of names, and the first of
-/// the faults for which the program is not clean. The time is near-linear in the bytes of the sources, and for each look-up of a member in
-/// the classes that it goes up.
-pub fn read_clean_base<F: Files>(
+/// Refuses, in this order, what the reading of a base refuses, the first file that is no source, and the first fault of names. The time is
+/// near-linear in the bytes of the sources, and for each look-up of a member in the classes that it goes up.
+pub fn read_base_program<F: Files>(
     alloc: Global,
     base: &Text,
     files: &mut F,
-) -> Result<CleanBase, Refusal>
+) -> Result<BaseProgram, Refusal>
     ensures only_reads { OnlyReads (store F.Files files.old) (store F.Files files.new) }
     ensures base { IfOk result (λ read. ForSome (F.holds files.old) (λ held. IsReadOf base.now held read)) }
     ensures tidied { IfOk result (λ read. tidy read.table ≡ read.table) }
@@ -50,58 +49,57 @@ pub fn read_clean_base<F: Files>(
     ensures carries { IfErr result (λ refusal. CarriesBase base.now refusal.status) }
 {
     match read_base(alloc, base, files) {
-        Ok(read) => clean_base(alloc, read.as_slice()),
+        Ok(read) => base_program(alloc, read.as_slice()),
         Err(fault) => Err(Refusal::of(alloc, Status::from(fault))),
     }
 }
 
 /// The program of these files.
-fn clean_base(alloc: Global, read: &[File]) -> Result<CleanBase, Refusal>
+fn base_program(alloc: Global, read: &[File]) -> Result<BaseProgram, Refusal>
     requires small { AreSmall read.now }
     requires apart { ArePathsApart (file_pairs read.now) }
-    ensures program { IfOk result (IsCleanOf (file_pairs read.now)) }
+    ensures program { IfOk result (IsProgramOf (file_pairs read.now)) }
     ensures stop { IfErr result (IsRefusalOfFiles (file_pairs read.now)) }
 {
     match read_program(alloc, read) {
-        Ok(table) => {
-            rules(&table);
-            refuse_unclean(alloc, &table)?;
-            Ok(CleanBase {
-                table,
-                files: read.len(),
-            })
-        }
+        Ok(table) => Ok(BaseProgram {
+            table,
+            files: read.len(),
+        }),
         Err(fault) => Err(Refusal::of(alloc, Status::from(fault))),
     }
 }
 
 /// The rules of programs hold of each table. The call does nothing.
-fn rules(table: &Table)
+pub fn rules(table: &Table)
     ensures { KeepsRules table.now }
 {
     let _ = table.ids();
 }
 
-/// Refuses a program that is not clean, for its first fault.
-fn refuse_unclean(alloc: Global, table: &Table) -> Result<(), Refusal>
+/// Refuses a program that is not clean, for its first fault. It makes the indexes of the program for this alone.
+pub fn refuse_unclean_table(alloc: Global, table: &Table) -> Result<(), Refusal>
     requires { tidy table.now ≡ table.now }
     ensures clean { OnOk result (Clean table.now) }
     ensures stop { IfErr result (IsRefusalOfProgram table.now) }
 {
-    match first_fault_in(alloc, table) {
-        Ok(None) => Ok(()),
-        Ok(Some(fault)) => Err(unclean(alloc, table, fault)),
+    match ProgramIndex::new(alloc, table) {
+        Ok(program) => refuse_unclean(alloc, &program),
         Err(OutOfMemory) => Err(Refusal::out_of_memory()),
     }
 }
 
-/// The first fault of a program, whose indexes are made.
-fn first_fault_in(alloc: Global, table: &Table) -> Result<Option<Fault>, OutOfMemory>
-    requires { tidy table.now ≡ table.now }
-    ensures { IfOk result (λ first. IsFirst table.now (option_map kept_fault first)) }
+/// Refuses a program that is not clean, for its first fault.
+pub fn refuse_unclean(alloc: Global, program: &ProgramIndex<'_>) -> Result<(), Refusal>
+    requires { tidy program.now ≡ program.now }
+    ensures clean { OnOk result (Clean program.now) }
+    ensures stop { IfErr result (IsRefusalOfProgram program.now) }
 {
-    let program = ProgramIndex::new(alloc, table)?;
-    first_fault_of_tidied(alloc, &program)
+    match first_fault_of_tidied(alloc, program) {
+        Ok(None) => Ok(()),
+        Ok(Some(fault)) => Err(unclean(alloc, program.table(), fault)),
+        Err(OutOfMemory) => Err(Refusal::out_of_memory()),
+    }
 }
 
 /// The refusal of a program for a fault. Its line names addresses of the program.

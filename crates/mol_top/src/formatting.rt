@@ -14,10 +14,11 @@ ghost use Rattle.mol_top.specs.Formatting.{printed_height, program_heights, prog
 ghost use Rattle.mol_top.specs.Output.{IsReady};
 ghost use Rattle.mol_top.specs.Outside.{OnlyReads, store};
 ghost use Rattle.mol_top.specs.Prepared.{IsStopped, Prepares};
+ghost use Rattle.mol_top.specs.ProgramWork.{IsCleanWork, IsProgramStopped};
 ghost use Rattle.mol_top.specs.Steps.{Only, Stops};
 ghost use Rattle.mol_top.specs.Words.{fmt_command, fmt_words};
 
-use crate::clean_base::read_clean_base;
+use crate::clean_base::{read_base_program, refuse_unclean, rules};
 use crate::command::FmtWords;
 use crate::fault::StoreFault;
 use crate::output::{Work, below, failure_lines, refuse_large};
@@ -36,8 +37,8 @@ use std::alloc::Global;
 
 /// All that `fmt` writes and prints: the files of the program below BASE, below OUT.
 ///
-/// Refuses, in this order, what `read_clean_base` refuses, a folder OUT that is in use, and files that pass a limit. The time is
-/// near-linear in the bytes of the sources and of the files, but for what names cost.
+/// Refuses, in this order, what `read_base_program` refuses, a program that is not clean, for its first fault, a folder OUT that is in use,
+/// and files that pass a limit. The time is near-linear in the bytes of the sources and of the files, but for what names cost.
 pub fn prepare_fmt<F: Files>(
     alloc: Global,
     words: FmtWords<'_>,
@@ -49,30 +50,67 @@ pub fn prepare_fmt<F: Files>(
     ensures stop { IfErr result (IsStopped (fmt_command words.entry) (store F.Files files.old) (store F.Files files.new)) }
     ensures carries { IfErr result (λ refusal. CarriesOwn (fmt_paths (fmt_words words.entry)) refusal.status) }
 {
-    let base = read_clean_base(alloc, words.base, files)?;
-    match formatted(alloc, words.out, &base.table, files) {
+    let base = read_base_program(alloc, words.base, files)?;
+    rules(&base.table);
+    program_work(alloc, words.out, &base.table, files)
+}
+
+/// All that is written and printed of a program below a folder. The indexes of the program are made once, for its faults and for its files.
+fn program_work<F: Files>(
+    alloc: Global,
+    out: &Text,
+    table: &Table,
+    files: &mut F,
+) -> Result<Work, Refusal>
+    requires { tidy table.now ≡ table.now }
+    ensures only_reads { OnlyReads (store F.Files files.old) (store F.Files files.new) }
+    ensures ready { IfOk result IsReady }
+    ensures work { IfOk result (IsCleanWork out.now table.now (store F.Files files.old)) }
+    ensures stop { IfErr result (IsProgramStopped out.now table.now (store F.Files files.old) (store F.Files files.new)) }
+{
+    match ProgramIndex::new(alloc, table) {
+        Ok(program) => clean_work(alloc, out, &program, files),
+        Err(OutOfMemory) => Err(Refusal::out_of_memory()),
+    }
+}
+
+/// All that is written and printed of a program, unless it is not clean.
+fn clean_work<F: Files>(
+    alloc: Global,
+    out: &Text,
+    program: &ProgramIndex<'_>,
+    files: &mut F,
+) -> Result<Work, Refusal>
+    requires { tidy program.now ≡ program.now }
+    ensures only_reads { OnlyReads (store F.Files files.old) (store F.Files files.new) }
+    ensures ready { IfOk result IsReady }
+    ensures work { IfOk result (IsCleanWork out.now program.now (store F.Files files.old)) }
+    ensures stop { IfErr result (IsProgramStopped out.now program.now (store F.Files files.old) (store F.Files files.new)) }
+{
+    refuse_unclean(alloc, program)?;
+    match formatted(alloc, out, program, files) {
         Ok(work) => Ok(work),
         Err(fault) => Err(Refusal::of(alloc, Status::from(fault))),
     }
 }
 
-/// All that is written and printed of a program, below a folder.
+/// All that is written and printed of a clean program.
 fn formatted<F: Files>(
     alloc: Global,
     out: &Text,
-    table: &Table,
+    program: &ProgramIndex<'_>,
     files: &mut F,
 ) -> Result<Work, StoreFault>
-    requires { tidy table.now ≡ table.now }
+    requires { tidy program.now ≡ program.now }
     ensures only_reads { OnlyReads (store F.Files files.old) (store F.Files files.new) }
     ensures ready { IfOk result IsReady }
-    ensures work { IfOk result (λ work. ForSome (F.holds files.old) (λ held. MakesFiles out.now table.now held work)) }
+    ensures work { IfOk result (λ work. ForSome (F.holds files.old) (λ held. MakesFiles out.now program.now held work)) }
     ensures stop { IfErr result (Stops (Only out.now) (store F.Files files.old) (store F.Files files.new)
-        (output_refusal out.now table.now)) }
+        (output_refusal out.now program.now)) }
     ensures carries { IfErr result (λ fault. Carries (Only out.now) NoPath (IsInside out.now) (store_status fault)) }
 {
     check_out(alloc, out, files)?;
-    let ProgramFiles { texts, heights } = program_files(alloc, table)?;
+    let ProgramFiles { texts, heights } = program_files(alloc, program)?;
     refuse_large(texts.as_slice(), heights.as_slice())?;
     Ok(text_work(alloc, out, texts)?)
 }
@@ -85,17 +123,7 @@ struct ProgramFiles {
 }
 
 /// The files of a program.
-fn program_files(alloc: Global, table: &Table) -> Result<ProgramFiles, OutOfMemory>
-    requires { tidy table.now ≡ table.now }
-    ensures texts { IfOk result (λ made. file_pairs made.texts.items ≡ program_texts table.now) }
-    ensures heights { IfOk result (λ made. made.heights.items ≡ program_heights table.now) }
-{
-    let program = ProgramIndex::new(alloc, table)?;
-    indexed_files(alloc, &program)
-}
-
-/// The files of a program that has its indexes.
-fn indexed_files(alloc: Global, program: &ProgramIndex<'_>) -> Result<ProgramFiles, OutOfMemory>
+fn program_files(alloc: Global, program: &ProgramIndex<'_>) -> Result<ProgramFiles, OutOfMemory>
     requires { tidy program.now ≡ program.now }
     ensures texts { IfOk result (λ made. file_pairs made.texts.items ≡ program_texts program.now) }
     ensures heights { IfOk result (λ made. made.heights.items ≡ program_heights program.now) }

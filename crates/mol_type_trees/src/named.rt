@@ -11,7 +11,7 @@ ghost use Rattle.mol_values.specs.declared.itype.IType.TheVariants as trees;
 
 use jav_scope::Scope;
 use jav_typenames::{TypeReading, type_reading};
-use mol_base::{OutOfMemory, Text};
+use mol_base::{Boxed, OutOfMemory, Text};
 use mol_numbers::Numbers;
 use mol_values::IType;
 use std::alloc::Global;
@@ -56,6 +56,6 @@ fn imported(alloc: Global, full: &Text, rest: &str) -> Result<Option<IType>, Out
     ensures { IfOk result (λ tree. tree ≡ Some (trees.Imported full.now rest.now)) }
 {
     let full = full.copy(alloc)?;
-    let rest = Text::from_str(alloc, rest)?;
+    let rest = Boxed::new(alloc, Text::from_str(alloc, rest)?)?;
     Ok(Some(IType::Imported(full, rest)))
 }

@@ -25,7 +25,7 @@ pub(crate) fn same_types(alloc: Global, first: &IType, second: &IType) -> Result
         IType::Long => Ok(is_primitive(second, "long")),
         IType::Void => Ok(matches!(second, IType::Void)),
         IType::Class(class) => Ok(is_class(second, class)),
-        IType::Imported(full, rest) => is_outside(alloc, second, full, rest.as_str()),
+        IType::Imported(full, rest) => is_outside(alloc, second, full, rest.get().as_str()),
         IType::Written(text) => is_outside(alloc, second, text, ""),
         IType::Array(item) => match second {
             IType::Array(further) => same_types(alloc, item.get(), further.get()),
@@ -71,7 +71,7 @@ fn is_outside(alloc: Global, ty: &IType, full: &Text, rest: &str) -> Result<bool
     ensures { IfOk result (λ same. same ≡ same_type id_cmp (outside_type (imported_text full.now rest.now)) (seen ty.now)) }
 {
     match ty {
-        IType::Imported(own, more) => same_texts(alloc, full, rest, own, more.as_str()),
+        IType::Imported(own, more) => same_texts(alloc, full, rest, own, more.get().as_str()),
         IType::Written(text) => same_texts(alloc, full, rest, text, ""),
         _ => Ok(false),
     }

@@ -33,7 +33,7 @@ impl<F: FileNames> UnitWriter<'_, F> {
     {
         match self.value(id, Slot::Value) {
             Some(Value::Value(ty, init)) => {
-                let field = self.field_tree(id, ty, init)?;
+                let field = self.field_tree(id, ty, init.get())?;
                 Ok(Some(Member::Field(field)))
             },
             _ => Ok(None),

@@ -16,7 +16,7 @@ pub enum IType {
     Class(Id),
     /// A class outside that is reached by an import: the full name that is imported, and what follows
     /// it after a dot, which may be empty.
-    Imported(Text, Text),
+    Imported(Text, Boxed<Text>),
     /// A class outside, named as it is written.
     Written(Text),
     /// An array of items of this type.

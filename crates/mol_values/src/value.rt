@@ -3,7 +3,7 @@ ghost use Rattle.std.specs.Prelude.{◌≡◌};
 ghost use Rattle.mol_values.specs.Slots.{slot_of};
 
 use crate::{IBody, IExpr, IType, MethodKind, Notes, Param, Slot, Words};
-use mol_base::{Id, List, Text};
+use mol_base::{Boxed, Id, List, Text};
 
 /// What a cell holds. Each variant is the form of the slot of its name.
 #[derive(Drop)]
@@ -30,7 +30,7 @@ pub enum Value {
     /// None for an abstract method.
     Body(Option<IBody>),
     /// The type of a field, and its first value.
-    Value(IType, Option<IExpr>),
+    Value(IType, Boxed<Option<IExpr>>),
 }
 
 impl Value {

@@ -51,7 +51,7 @@ fn type_after(
         TypeHead::Imported => {
             let full = words.text(alloc, TextForm::Dotted)?;
             let rest = words.text(alloc, TextForm::Rest)?;
-            Ok(IType::Imported(full, rest))
+            Ok(IType::Imported(full, Boxed::new(alloc, rest)?))
         }
         TypeHead::Written => Ok(IType::Written(words.text(alloc, TextForm::Dotted)?)),
         TypeHead::Array => {

@@ -38,7 +38,7 @@ impl Written {
             IType::Imported(full, rest) => {
                 self.word("imported")?;
                 self.text(full)?;
-                self.text(rest)
+                self.text(rest.get())
             }
             IType::Written(name) => self.text_after("written", name),
             IType::Array(item) => {

@@ -35,7 +35,7 @@ impl<N: Names> ExprWriter<'_, N> {
             IType::Void => Ok(TypeName::Void),
             IType::Class(class) => self.imported(place, Importable::Class(class), ""),
             IType::Imported(full, rest) => {
-                self.imported(place, Importable::Import(full), rest.as_str())
+                self.imported(place, Importable::Import(full), rest.get().as_str())
             },
             IType::Written(text) => written(self.alloc, text),
             IType::Array(item) => {

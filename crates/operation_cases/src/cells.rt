@@ -6,7 +6,7 @@ use crate::line::Line;
 use crate::params::read_params;
 use crate::texts::{dotted_of, name_of, no_notes, no_words};
 use crate::types::{read_parent, read_result};
-use mol_base::Text;
+use mol_base::{Boxed, Text};
 use mol_table::{MethodKind, Slot, Value};
 use std::alloc::Global;
 
@@ -75,7 +75,7 @@ fn body_value(alloc: Global, line: &mut Line<'_>) -> Result<Value, CaseFault> {
 /// The next type and first value of a field.
 fn field_value(alloc: Global, line: &mut Line<'_>) -> Result<Value, CaseFault> {
     let FieldValue { ty, value } = read_field_value(alloc, line)?;
-    Ok(Value::Value(ty, value))
+    Ok(Value::Value(ty, Boxed::new(alloc, value)?))
 }
 
 /// The value of a slot; there are no modifiers and no comments.

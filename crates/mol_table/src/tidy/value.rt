@@ -6,7 +6,7 @@ use crate::maps::Maps;
 use crate::tidy::{tidy_body, tidy_maybe};
 use crate::{IBody, Value};
 use indexmap::IndexMap;
-use mol_base::{Id, OutOfMemory};
+use mol_base::{Boxed, Id, OutOfMemory};
 use std::alloc::Global;
 
 /// The body there is, tidied.
@@ -37,7 +37,7 @@ pub(crate) fn tidy_value(
         Value::Body(body) => Ok(Value::Body(tidy_own_body(alloc, maps, index, body)?)),
         Value::Value(ty, init) => Ok(Value::Value(
             ty.copy(alloc)?,
-            tidy_maybe(alloc, maps, index, init)?,
+            Boxed::new(alloc, tidy_maybe(alloc, maps, index, init.get())?)?,
         )),
         _ => value.copy(alloc),
     }

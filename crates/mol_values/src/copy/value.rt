@@ -2,7 +2,7 @@ ghost use Rattle.std.specs.Prelude.{◌≡◌, IfOk};
 
 use crate::copy::{copy_maybe, copy_texts};
 use crate::{IBody, IType, Notes, Param, Value, Words};
-use mol_base::{List, OutOfMemory};
+use mol_base::{Boxed, List, OutOfMemory};
 use std::alloc::Global;
 
 impl Words {
@@ -92,7 +92,7 @@ impl Value {
             Value::Words(words) => Ok(Value::Words(words.copy(alloc)?)),
             Value::Notes(notes) => Ok(Value::Notes(notes.copy(alloc)?)),
             Value::Body(body) => Ok(Value::Body(copy_body(alloc, body)?)),
-            Value::Value(ty, init) => Ok(Value::Value(ty.copy(alloc)?, copy_maybe(alloc, init)?)),
+            Value::Value(ty, init) => Ok(Value::Value(ty.copy(alloc)?, Boxed::new(alloc, copy_maybe(alloc, init.get())?)?)),
         }
     }
 }

@@ -29,7 +29,7 @@ impl IType {
             IType::Class(id) => Ok(IType::Class(name_of(names, id))),
             IType::Imported(full, rest) => Ok(IType::Imported(
                 full.copy(alloc)?,
-                rest.copy(alloc)?,
+                Boxed::new(alloc, rest.get().copy(alloc)?)?,
             )),
             IType::Written(name) => Ok(IType::Written(name.copy(alloc)?)),
             IType::Array(item) => Ok(IType::Array(Boxed::new(

@@ -6,7 +6,7 @@ ghost use Rattle.mol_values.specs.Renaming.{name_in};
 use crate::renamed::{name_of, rename_maybe};
 use crate::{IBody, IType, Known, Param, Value};
 use indexmap::IndexMap;
-use mol_base::{Id, List, OutOfMemory};
+use mol_base::{Boxed, Id, List, OutOfMemory};
 use std::alloc::Global;
 
 impl Known {
@@ -99,7 +99,7 @@ impl Value {
             Value::Body(body) => Ok(Value::Body(rename_body(alloc, names, body)?)),
             Value::Value(ty, init) => Ok(Value::Value(
                 ty.renamed(alloc, names)?,
-                rename_maybe(alloc, names, init)?,
+                Boxed::new(alloc, rename_maybe(alloc, names, init.get())?)?,
             )),
             _ => self.copy(alloc),
         }

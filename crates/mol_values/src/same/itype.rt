@@ -46,7 +46,7 @@ impl IType {
                     if !same_text(a0, b0) {
                         return false;
                     }
-                    same_text(a1, b1)
+                    same_text(a1.get(), b1.get())
                 }
                 _ => false,
             },

@@ -155,7 +155,7 @@ impl Value {
                     if !a0.same(b0) {
                         return false;
                     }
-                    same_maybe(a1, b1)
+                    same_maybe(a1.get(), b1.get())
                 }
                 _ => false,
             },

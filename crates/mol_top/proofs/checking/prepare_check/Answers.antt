@@ -1,8 +1,8 @@
 use Rattle.std.proofs.Common.{inl}
 use Rattle.std.proofs.lemmas.Result.{err_from_is_err_and}
-use Rattle.mol_top.proofs.BaseStops.{base_stopped}
+use Rattle.mol_top.proofs.BaseStops.{base_stopped, program_stopped}
 use Rattle.mol_top.proofs.CheckedBases.{check_prepared}
-use Rattle.mol_top.proofs.ReadBases.{base_carries}
+use Rattle.mol_top.proofs.ReadBases.{base_carries, unclean_carries}
 use Rattle.mol_top.proofs.checking.prepare_check.Goals as goal
 use Rattle.mol_top.specs.Command.{Command, check_paths}
 use Rattle.mol_top.specs.Outside.{store}
@@ -12,7 +12,7 @@ pub returns-in_err-base-clause-stop : goal.returns-in_err-base-clause-stop
 returns-in_err-base-clause-stop g c =
     let w = check_words c.args.words in
     let p = err_from_is_err_and c.from_residual.result c.from_residual.ensures.1 in
-    rw (p.1, p.2) (base_stopped (Command.check w) w.base (store g.F.Files c.args.files.now) (store g.F.Files c.read_clean_base.new.files) _
+    rw (p.1, p.2) (base_stopped (Command.check w) w.base (store g.F.Files c.args.files.now) (store g.F.Files c.read_base_program.new.files) _
     (λ h s refuses. refuses) (λ h s line is. is) (λ path below. inl below) c.in_err-base.ensures.stop)
 
 pub returns-in_err-base-clause-carries : goal.returns-in_err-base-clause-carries
@@ -20,7 +20,24 @@ returns-in_err-base-clause-carries g c =
     let p = err_from_is_err_and c.from_residual.result c.from_residual.ensures.1 in
     rw (p.1, p.2) (base_carries (check_paths (check_words c.args.words)) _ c.in_err-base.ensures.carries)
 
+pub returns-in_err-refuse_unclean_table-clause-stop : goal.returns-in_err-refuse_unclean_table-clause-stop
+returns-in_err-refuse_unclean_table-clause-stop g c =
+    let w = check_words c.args.words in
+    let old = store g.F.Files c.args.files.now in
+    let new = store g.F.Files c.read_base_program.new.files in
+    let p = err_from_is_err_and c.from_residual-in_err-refuse_unclean_table.result c.from_residual-in_err-refuse_unclean_table.ensures.1 in
+    rw (p.1, p.2) (base_stopped (Command.check w) w.base old new _ (λ h s refuses. refuses) (λ h s line is. is) (λ path below. inl below)
+    (program_stopped w.base old new c.in_ok-base.base.table (λ h e. (c.in_ok-base.ensures.base h e).program) _
+    c.in_err-refuse_unclean_table.ensures.stop))
+
+pub returns-in_err-refuse_unclean_table-clause-carries : goal.returns-in_err-refuse_unclean_table-clause-carries
+returns-in_err-refuse_unclean_table-clause-carries g c =
+    let w = check_words c.args.words in
+    let p = err_from_is_err_and c.from_residual-in_err-refuse_unclean_table.result c.from_residual-in_err-refuse_unclean_table.ensures.1 in
+    rw (p.1, p.2) (base_carries (check_paths w) _
+    (unclean_carries w.base c.in_ok-base.base.table _ c.in_err-refuse_unclean_table.ensures.stop))
+
 pub returns-in-Ok-clause-work : goal.returns-in-Ok-clause-work
 returns-in-Ok-clause-work g c =
     check_prepared (check_words c.args.words) (store g.F.Files c.args.files.now) c.in_ok-base.base c.in-Ok.work c.in_ok-base.ensures.base
-    c.in-Ok.ensures
+    c.rules.ensures c.in_ok-refuse_unclean_table.ensures.clean c.in-Ok.ensures

@@ -44,7 +44,7 @@ fn type_json(alloc: Global, type_: &IType) -> Result<Json, OutOfMemory>
             Ok(json!(in alloc; ["class", spelled.as_str()])?)
         }
         IType::Imported(package, name) => {
-            Ok(json!(in alloc; ["imported", package.as_str(), name.as_str()])?)
+            Ok(json!(in alloc; ["imported", package.as_str(), name.get().as_str()])?)
         }
         IType::Written(name) => Ok(json!(in alloc; ["written", name.as_str()])?),
         _ => Ok(Json::Array(Vec::new(alloc))),

@@ -1,0 +1,13 @@
+use Rattle.std.proofs.Common.{sym}
+use Rattle.std.proofs.lemmas.List.{length-map}
+use Rattle.mol_files.specs.Files.{file_pair, file_pairs}
+use Rattle.mol_top.proofs.ReadBases.{wrong_files}
+use Rattle.mol_top.proofs.clean_base.base_program.Goals as goal
+
+pub returns-in-Ok-clause-program : goal.returns-in-Ok-clause-program
+returns-in-Ok-clause-program c = record { read_as = c.in-Ok.ensures.read; count = sym (length-map c.args.read.now file_pair) }
+
+pub returns-in-Err-clause-stop : goal.returns-in-Err-clause-stop
+returns-in-Err-clause-stop c =
+    wrong_files (file_pairs c.args.read.now) c.in-Err.fault c.of.result c.in-Err.ensures.fault (rw (← c.from.ensures) c.of.ensures.status)
+    c.of.ensures.line

@@ -1,0 +1,34 @@
+-- What `fmt` makes of a program that was read, and what stops it.
+use Rattle.std.specs.Prelude.{◌≡◌, ◌⊎◌, ℕ, List}
+use Rattle.std.specs.Option.{ForSome}
+use Rattle.mol_spelling.specs.Clean.{Clean}
+use Rattle.mol_table.specs.Program.{Program}
+use Rattle.mol_top.specs.Answers.{store_status}
+use Rattle.mol_top.specs.Carried.{Carries, IsInside, NoPath}
+use Rattle.mol_top.specs.Formatting.{MakesFiles, output_refusal}
+use Rattle.mol_top.specs.Outside.{Store}
+use Rattle.mol_top.specs.Refused.{IsRefusalOfProgram}
+use Rattle.mol_top.specs.Report.{line_bytes, refusal_line}
+use Rattle.mol_top.specs.Steps.{Only, Stops}
+use Rattle.mol_top.specs.declared.fault.StoreFault.{StoreFault}
+use Rattle.mol_top.specs.declared.output.Work.{Work}
+use Rattle.mol_top.specs.declared.refusal.Refusal.{Refusal}
+use Rattle.mol_top.specs.declared.status.Status.TheVariants.{OutOfMemory}
+
+-- the program is clean, and this is made of its files below a folder, where the store tells
+pub record IsCleanWork (out : List ℕ) (program : Program) (store : Store) (work : Work) : Type 0 where
+  pub clean : Clean program
+  pub made : ForSome store.held (λ h. MakesFiles out program h work)
+
+-- the program is clean, and its files are stopped, or there is no memory for the line of what stops them
+pub record IsForFiles (out : List ℕ) (program : Program) (old new : Store) (refusal : Refusal) : Type 0 where
+  pub clean : Clean program
+  pub fault : StoreFault
+  pub stops : Stops (Only out) old new (output_refusal out program) fault
+  pub carries : Carries (Only out) NoPath (IsInside out) (store_status fault)
+  pub status : (refusal.status ≡ store_status fault) ⊎ (refusal.status ≡ OutOfMemory)
+  pub line : line_bytes refusal.line ≡ refusal_line refusal.status
+
+-- the program is refused, or its files are stopped
+abbrev pub IsProgramStopped : List ℕ → Program → Store → Store → Refusal → Type 0
+IsProgramStopped out program old new refusal = IsRefusalOfProgram program refusal ⊎ IsForFiles out program old new refusal
