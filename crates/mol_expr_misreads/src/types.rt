@@ -75,7 +75,12 @@ impl<N: Names> ExprReader<'_, '_, N> {
             IType::Long => Ok(()),
             IType::Void => Ok(()),
             IType::Class(class) => self.note_class(misreads, asks, class),
-            IType::Imported(full, rest) => self.note_imported(misreads, asks, full, rest.get().as_str()),
+            IType::Imported(full, rest) => self.note_imported(
+                misreads,
+                asks,
+                full,
+                rest.get().as_str(),
+            ),
             IType::Written(text) => {
                 let text = text.as_str();
                 self.note_name(misreads, asks, &Target::Outside(text), text)

@@ -29,7 +29,7 @@ pub enum Value {
     Notes(Notes),
     /// None for an abstract method.
     Body(Option<IBody>),
-    /// The type of a field, and its first value.
+    /// The type of a field, and its first value. It is in a box, since each cell takes the room of the largest value.
     Value(IType, Boxed<Option<IExpr>>),
 }
 

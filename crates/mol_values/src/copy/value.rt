@@ -92,7 +92,10 @@ impl Value {
             Value::Words(words) => Ok(Value::Words(words.copy(alloc)?)),
             Value::Notes(notes) => Ok(Value::Notes(notes.copy(alloc)?)),
             Value::Body(body) => Ok(Value::Body(copy_body(alloc, body)?)),
-            Value::Value(ty, init) => Ok(Value::Value(ty.copy(alloc)?, Boxed::new(alloc, copy_maybe(alloc, init.get())?)?)),
+            Value::Value(ty, init) => Ok(Value::Value(
+                ty.copy(alloc)?,
+                Boxed::new(alloc, copy_maybe(alloc, init.get())?)?,
+            )),
         }
     }
 }
