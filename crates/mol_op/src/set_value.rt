@@ -50,8 +50,9 @@ impl Operation for SetValue {
     fn apply(&self, alloc: Global, tag: Tag, table: &mut Table) -> Result<(), ApplyFault> {
         self.applies(tag, table)?;
         let ty = self.ty.copy(alloc)?;
-        let value = Boxed::new(alloc, copy_value(alloc, &self.value)?)?;
-        set_cell(table, &self.field, Value::Value(ty, value));
+        let value = copy_value(alloc, &self.value)?;
+        let init = Boxed::new(alloc, value)?;
+        set_cell(table, &self.field, Value::Value(ty, init));
         Ok(())
     }
 }

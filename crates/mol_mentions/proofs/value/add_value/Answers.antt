@@ -4,6 +4,7 @@ use Rattle.std.specs.List.{flat_map}
 use Rattle.mol_ordered.proofs.Added.{adds, adds-none}
 use Rattle.mol_mentions.proofs.value.add_value.Goals as goal
 use Rattle.mol_table.specs.Mentions.{mentions, param_mentions}
+use Rattle.mol_values.specs.declared.value.Value.TheVariants as values
 
 pub returns-in-Live : goal.returns-in-Live
 returns-in-Live c = adds-none c.args.mentions.now _ (ap mentions c.in-Live.is)
@@ -54,4 +55,5 @@ returns-in-Body c =
 
 pub returns-in-Value : goal.returns-in-Value
 returns-in-Value c =
-    on_ok_weaker c.add_field.result (adds c.args.mentions.now _ _ _ (ap mentions c.in-Value.is)) c.add_field.ensures
+    on_ok_weaker c.add_field.result (adds c.args.mentions.now _ _ _
+    (ap mentions (c.in-Value.is ∙ ap (values.Value c.in-Value.ty) (sym c.get.ensures)))) c.add_field.ensures

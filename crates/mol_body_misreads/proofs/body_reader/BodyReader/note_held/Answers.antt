@@ -1,10 +1,11 @@
 -- What is noted of each kind of value.
-use Rattle.std.proofs.Common.{Some, ap}
+use Rattle.std.proofs.Common.{◌∙◌, Some, ap, sym}
 use Rattle.std.proofs.lemmas.Result.{on_ok_weaker}
 use Rattle.mol_body_misreads.proofs.Noting.{notes, notes-none}
 use Rattle.mol_body_misreads.proofs.ValueParts.{list-noted}
 use Rattle.mol_body_misreads.proofs.body_reader.BodyReader.note_held.Goals as goal
 use Rattle.mol_spelling.specs.UnitCells.{references_in}
+use Rattle.mol_values.specs.declared.value.Value.TheVariants as values
 
 pub returns-in-Live : goal.returns-in-Live
 returns-in-Live g c =
@@ -76,7 +77,7 @@ pub returns-in-Value : goal.returns-in-Value
 returns-in-Value g c =
     let writer = g.P.Places.writer c.args.self.now.places.now in
     on_ok_weaker c.note_first_value.result (notes writer c.args.misreads.now _ _ _
-    (ap (λ value. references_in writer (Some value)) c.in-Value.is))
+    (ap (λ value. references_in writer (Some value)) (c.in-Value.is ∙ ap (values.Value c.in-Value.ty) (sym c.get.ensures))))
     c.note_first_value.ensures
 
 pub returns-in-Params : goal.returns-in-Params

@@ -1,10 +1,11 @@
 -- What each kind of value uses.
-use Rattle.std.proofs.Common.{Some, ap}
+use Rattle.std.proofs.Common.{◌∙◌, Some, ap, sym}
 use Rattle.std.proofs.lemmas.Result.{on_ok_weaker}
 use Rattle.mol_body_uses.proofs.ValueUses.{field-used, held-body-used, list-used, parent-used, result-used}
 use Rattle.mol_body_uses.proofs.body_uses.BodyUses.add_held.Goals as goal
 use Rattle.mol_body_uses.specs.PartUses.{value_uses}
 use Rattle.mol_uses.proofs.Added.{adds-none}
+use Rattle.mol_values.specs.declared.value.Value.TheVariants as values
 
 pub returns-in-Live : goal.returns-in-Live
 returns-in-Live g c =
@@ -78,5 +79,6 @@ returns-in-Body g c =
 pub returns-in-Value : goal.returns-in-Value
 returns-in-Value g c =
     let writer = g.P.Places.writer c.args.self.now.places.now in
-    on_ok_weaker c.add_first_value.result (field-used writer c.args.value.now c.args.uses.now _ c.in-Value.ty c.in-Value.init c.in-Value.is)
+    on_ok_weaker c.add_first_value.result (field-used writer c.args.value.now c.args.uses.now _ c.in-Value.ty _
+    (c.in-Value.is ∙ ap (values.Value c.in-Value.ty) (sym c.get.ensures)))
     c.add_first_value.ensures

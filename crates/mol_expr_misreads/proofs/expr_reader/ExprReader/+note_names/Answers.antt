@@ -79,7 +79,7 @@ returns-in-Imported g t c =
     let misreads = c.args.misreads.now in
     on_ok_weaker c.note_imported.result (λ noted. noted
     ∙ ap (λ type. noted_after writer misreads (asked_references writer locals c.args.asks type)) (ap
-    (types.Imported c.in-Imported.full) c.as_str.ensures ∙ sym c.in-Imported.is)) c.note_imported.ensures
+    (types.Imported c.in-Imported.full) (c.as_str.ensures ∙ c.get.ensures) ∙ sym c.in-Imported.is)) c.note_imported.ensures
 
 pub returns-in-Written : goal.returns-in-Written
 returns-in-Written g t c =
@@ -98,6 +98,6 @@ returns-in-Array g t c =
     let locals = g.N.Names.locals c.args.self.now.names.now in
     let misreads = c.args.misreads.now in
     on_ok_weaker c.note_names.result (λ noted. noted
-    ∙ ap (noted_after writer misreads) (ap (asked_references writer locals c.args.asks) c.get.ensures
+    ∙ ap (noted_after writer misreads) (ap (asked_references writer locals c.args.asks) c.get-in-Array.ensures
     ∙ sym (ap (asked_references writer locals c.args.asks) c.in-Array.is
     ∙ names-Array writer locals c.args.asks c.in-Array.item))) c.note_names.ensures
