@@ -10,9 +10,8 @@ use crate::names::MisreadName;
 use crate::names_of_file::NamesOfFile;
 use jav_imports::ImportIndex;
 use mol_base::{Id, OutOfMemory};
-use mol_cells::is_living_class;
 use mol_class_members::ClassMembers;
-use mol_file_uses::{FileNames, MemberIndex, file_uses};
+use mol_file_uses::{FileNames, MemberIndex};
 use mol_program_index::ProgramIndex;
 use mol_simple_names::{SimpleNames, Uses};
 use mol_table::Slot;
@@ -33,7 +32,7 @@ pub(crate) fn names_in(
     Ok(found)
 }
 
-/// Adds what is misread in the file of a class, where it lives.
+/// Adds what is misread in the file of a class, where it lives: what its names use decides what has a simple name.
 fn add_class(
     alloc: Global,
     found: &mut Vec<MisreadName>,
@@ -42,42 +41,11 @@ fn add_class(
 ) -> Result<(), OutOfMemory>
     ensures { OnOk result (map kept_name found.new.items ≡ map kept_name found.old.items ++ class_misreads program.now id.now) }
 {
-    if is_living_class(program.table(), id) {
-        add_file(alloc, found, program, id)
-    } else {
-        Ok(())
-    }
-}
-
-/// Adds what is misread in the file of a class: what its names use decides what has a simple name.
-fn add_file(
-    alloc: Global,
-    found: &mut Vec<MisreadName>,
-    program: &ProgramIndex<'_>,
-    class: &Id,
-) -> Result<(), OutOfMemory>
-    ensures { OnOk result (map kept_name found.new.items ≡ map kept_name found.old.items ++ file_misreads program.now class.now) }
-{
     let (index, members) = (program.names(), program.members());
-    match program.uses_of(class) {
-        Some(uses) => add_by_uses(alloc, found, index, members, class, uses),
-        None => add_gathering(alloc, found, index, members, class),
+    match program.uses_of(id) {
+        Some(uses) => add_by_uses(alloc, found, index, members, id, uses),
+        None => Ok(()),
     }
-}
-
-/// The same where it is not kept what the names of the file use.
-fn add_gathering(
-    alloc: Global,
-    found: &mut Vec<MisreadName>,
-    index: &MemberIndex<'_>,
-    members: &ClassMembers<'_>,
-    class: &Id,
-) -> Result<(), OutOfMemory>
-    requires { members.now ≡ index.now }
-    ensures { OnOk result (map kept_name found.new.items ≡ map kept_name found.old.items ++ file_misreads index.now class.now) }
-{
-    let uses = file_uses(alloc, index, members, class)?;
-    add_by_uses(alloc, found, index, members, class, &uses)
 }
 
 /// Adds what is misread in the file of a class whose names use this.

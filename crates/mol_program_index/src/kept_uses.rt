@@ -1,6 +1,6 @@
 //! What the names of files use.
 ghost use Rattle.std.specs.Prelude.{◌≡◌, IfOk, OnOk};
-ghost use Rattle.mol_program_index.specs.KeptUses.{AreUses};
+ghost use Rattle.mol_program_index.specs.KeptUses.{AreUses, PutsUses};
 
 use indexmap::IndexMap;
 use mol_base::{Id, OutOfMemory};
@@ -19,7 +19,8 @@ pub(crate) fn kept_uses(
     ensures { IfOk result (λ kept. AreUses names.now kept.entries) }
 {
     let mut kept = IndexMap::new(alloc);
-    for class in names.table().ids() {
+    let ids = names.table().ids();
+    for class in ids {
         if is_living_class(names.table(), class) {
             keep_uses(alloc, &mut kept, names, members, class)?;
         }
@@ -35,9 +36,8 @@ fn keep_uses(
     members: &ClassMembers<'_>,
     class: &Id,
 ) -> Result<(), OutOfMemory>
-    requires members { members.now ≡ names.now }
-    requires kept { AreUses names.now kept.old.entries }
-    ensures { OnOk result (AreUses names.now kept.new.entries) }
+    requires { members.now ≡ names.now }
+    ensures { OnOk result (PutsUses names.now class.now kept.old.entries kept.new.entries) }
 {
     let uses = file_uses(alloc, names, members, class)?;
     kept.insert(*class, uses)?;

@@ -1,6 +1,6 @@
 //! A table with the indexes of its classes, members and files.
-ghost use Rattle.std.specs.Prelude.{◌≡◌, IfOk, IfSome};
-ghost use Rattle.mol_spelling.specs.SimpleNames.{uses_in};
+ghost use Rattle.std.specs.Prelude.{◌≡◌, IfOk, option_copied};
+ghost use Rattle.mol_program_index.specs.KeptUses.{living_uses};
 
 use crate::kept_uses::kept_uses;
 use indexmap::IndexMap;
@@ -81,7 +81,7 @@ impl<'a> ProgramIndex<'a> {
     /// What the names in the source file of a class use where they are printed, in that order, beside members and variables; `None` of a
     /// class that does not live. It takes no memory, and one look-up.
     pub fn uses_of(&self, class: &Id) -> Option<&Uses>
-        ensures { IfSome result (λ uses. uses.now ≡ uses_in self.now class.now) }
+        ensures { option_copied result ≡ living_uses self.now class.now }
     {
         self.uses.get(class)
     }

@@ -46,7 +46,7 @@ fn unit_tree(alloc: Global, program: &ProgramIndex<'_>, class: &Id) -> Result<Un
     }
 }
 
-/// The same where it is not kept what the names of the file use.
+/// The same where the class does not live, so that what the names of its file use is not kept.
 fn tree_gathering(
     alloc: Global,
     index: &MemberIndex<'_>,

@@ -1,4 +1,5 @@
 use Rattle.std.proofs.Common.{◌∙◌, refl, sym, ap}
+use Rattle.mol_program_index.proofs.UsesKept.{found-lives}
 use Rattle.mol_spelling.specs.SimpleNames.{uses_in}
 use Rattle.mol_spelt.proofs.FilesSpelt.{tree-as}
 use Rattle.mol_spelt.proofs.file.unit_tree.Goals as goal
@@ -9,7 +10,8 @@ tree_by_uses-requires-clause-table c = c.members-members.ensures ∙ sym c.names
 
 pub tree_by_uses-requires-clause-uses : goal.tree_by_uses-requires-clause-uses
 tree_by_uses-requires-clause-uses c =
-    c.in-Some.ensures ∙ ap (λ (program : Program). uses_in program c.args.class.now) (sym c.names-index.ensures)
+    (found-lives c.args.program.now c.args.class.now _ c.in-Some.ensures).1
+    ∙ ap (λ (program : Program). uses_in program c.args.class.now) (sym c.names-index.ensures)
 
 pub tree_gathering-requires : goal.tree_gathering-requires
 tree_gathering-requires c = c.members-members.ensures ∙ sym c.names-index.ensures
