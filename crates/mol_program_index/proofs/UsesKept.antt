@@ -1,5 +1,5 @@
 -- What the names of files use, as it is kept.
-use Rattle.std.proofs.Common.{◌≡◌, ◌≢◌, ◌∙◌, ◌⊎◌, ◌&&◌, ◌∷◌, [], Bool, true, false, cond, if◌then◌else◌, List, Option, Some, None, Contains, IsTrue, is_some, refl, sym, ap, subst, inl, inr, true≢false}
+use Rattle.std.proofs.Common.{◌≡◌, ◌∙◌, ◌⊎◌, ◌&&◌, ◌∷◌, [], Bool, true, false, cond, if◌then◌else◌, List, Option, Some, None, Contains, IsTrue, is_some, refl, sym, ap, subst, inl, inr, true≢false, arith}
 use Rattle.std.proofs.lemmas.Option.{cond_some, none-some}
 use Rattle.std.specs.Map.{lookup}
 use Rattle.std.specs.FinMap.{get}
@@ -15,7 +15,6 @@ use Rattle.mol_table.specs.Renumber.{is_class, is_living_class}
 use Rattle.mol_values.proofs.Ties.{id_ties}
 use Rattle.mol_values.specs.Order.{id_eq}
 use Rattle.mol_values.specs.declared.known.Known.{Known}
-use Rattle.mol_values.specs.declared.known.Known.TheVariants as knowns
 
 -- # One more identity is asked
 
@@ -68,7 +67,7 @@ module _ (program : Program) (class : Id) (rest : List Id) (old : List (Id × Li
 -- # At the beginning and at the end
 
 living-known : (known : Option Known) (lives : Bool) → (is_class known && lives) ≡ true → IsTrue (is_some known)
-living-known (Some known) lives is = tt
+living-known (Some known) lives is = refl
 living-known None lives is = absurd (true≢false (sym is))
 
 -- nothing stands anywhere, and each class that lives is among the identities that are known
@@ -89,7 +88,7 @@ all-kept program kept are = λ class. by class (are class) where
   by : (class : Id) → (lookup (id_eq class) kept ≡ living_uses program class) ⊎ ((lookup (id_eq class) kept ≡ None) × Contains [] class)
       → lookup (id_eq class) kept ≡ living_uses program class
   by class (inl is) = is
-  by class (inr none) = absurd (none.1.1)
+  by class (inr none) = let below = none.1.1 in absurd (omega arith)
 
 -- # What is found
 
