@@ -11,6 +11,7 @@ pub mod Outcome
 pub mod Output
 pub mod Outside
 pub mod Prepared
+pub mod ProgramWork
 pub mod ReadBack
 pub mod Refusals
 pub mod Refused
