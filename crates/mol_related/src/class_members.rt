@@ -6,9 +6,9 @@ ghost use Rattle.mol_members.specs.Rows.{kept_row};
 ghost use Rattle.mol_related.specs.Compared.{AreKept, StandInOrder, differing, is_kind};
 ghost use Rattle.mol_related.specs.Compared.{seen_declaration, seen_declared, seen_row, seen_signature};
 ghost use Rattle.mol_signatures.specs.Repeats.{kind_of as signature_kind};
-ghost use Rattle.mol_spell.specs.MemberFaults.{Row, a_constructor, a_method};
+ghost use Rattle.mol_spell.specs.MemberFaults.{Row, a_method};
 
-use crate::rows::{declaration, kind_of, signature};
+use crate::rows::{declaration, is_kind, signature};
 use jav_tree::Member;
 use mol_base::OutOfMemory;
 use mol_beside::Faulty;
@@ -138,11 +138,4 @@ fn declared<'a>(
         }
     }
     Ok(declared)
-}
-
-/// Whether a member is of this kind.
-fn is_kind(row: &MemberRow<'_>, kind: MemberKind) -> bool
-    ensures { result ≡ is_kind (signature_kind kind) (kept_row row.now) }
-{
-    kind_of(row.member) == kind
 }
