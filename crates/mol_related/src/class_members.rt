@@ -8,6 +8,7 @@ ghost use Rattle.mol_related.specs.Compared.{seen_declaration, seen_declared, se
 ghost use Rattle.mol_signatures.specs.Repeats.{kind_of as signature_kind};
 ghost use Rattle.mol_spell.specs.MemberFaults.{Row, a_method};
 
+use crate::methods::faulty_beside;
 use crate::rows::{declaration, is_kind, signature};
 use jav_tree::Member;
 use mol_base::OutOfMemory;
@@ -83,14 +84,7 @@ impl<'a> ClassMembers<'a> {
         ensures { (rows : List (Row ℕ)) → AreKept self.now rows
             → faulty_of result ≡ faulty_below a_method rows (kept_row row.now) }
     {
-        let method = declaration(row);
-        let differences = self.methods.differences(&method);
-        Faulty {
-            duplicate: false,
-            overload: differences.types,
-            result: differences.result,
-            hides_static: self.methods.hides_static(&method),
-        }
+        faulty_beside(&self.methods, row)
     }
 }
 
