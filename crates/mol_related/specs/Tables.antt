@@ -1,5 +1,5 @@
 -- The members of each class, and the methods of all classes.
-use Rattle.std.specs.Prelude.{◌≡◌, ℕ, List, Some, length, map, slice_get}
+use Rattle.std.specs.Prelude.{◌≡◌, ℕ, IfSome, List, Option, Some, length, map, slice_get}
 use Rattle.std.specs.List.{range_with_len}
 use Rattle.jav_scope.specs.declared.source.SourceUnit.{SourceUnit}
 use Rattle.mol_beside.specs.Classes.{rows_of}
@@ -18,9 +18,9 @@ AreKeptOf sources classes = (class : ℕ) (members : ClassMembers) → slice_get
 abbrev pub AreNumbered : List Declaration → Type 0
 AreNumbered declared = map (λ declaration. declaration.place) declared ≡ range_with_len 0 (length declared)
 
--- The members are those of the files, of each file those of its class are kept, and so are the methods of all.
-pub record AreRelated (sources members : List SourceUnit) (classes : List ClassMembers) (declared : List Declaration) : Type 0 where
+-- The members are those of the files, of each file those of its class are kept, and the methods of all where any are kept together.
+pub record AreRelated (sources members : List SourceUnit) (classes : List ClassMembers) (declared : Option (List Declaration)) : Type 0 where
   pub same : members ≡ sources
   pub size : length classes ≡ length sources
   pub kept : AreKeptOf sources classes
-  pub methods : map header_of_declaration declared ≡ methods_in (rows (files_of sources))
+  pub methods : IfSome declared (λ methods. map header_of_declaration methods ≡ methods_in (rows (files_of sources)))

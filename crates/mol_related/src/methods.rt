@@ -1,5 +1,5 @@
 //! The methods of all classes, and the faults of a method beside methods of other classes.
-ghost use Rattle.std.specs.Prelude.{◌≡◌, List, IfOk, OnOk, ℕ, [], ◌∷◌, ◌++◌, length, map};
+ghost use Rattle.std.specs.Prelude.{◌≡◌, List, IfOk, IfSome, OnOk, ℕ, [], ◌∷◌, ◌++◌, length, map};
 ghost use Rattle.mol_beside.specs.Between.{faulty_below};
 ghost use Rattle.mol_beside.specs.Kept.{faulty_of};
 ghost use Rattle.mol_members.specs.Rows.{kept_row};
@@ -10,6 +10,8 @@ ghost use Rattle.mol_spell.specs.MemberFaults.{Row, a_method};
 ghost use Rattle.mol_spell.specs.ResolveFaults.{rows as all_rows};
 
 use crate::rows::{declaration, is_kind};
+use jav_ancestors::next_up;
+use jav_scope::Scope;
 use mol_base::{OutOfMemory, number_of};
 use mol_beside::Faulty;
 use mol_members::{MemberRow, Members};
@@ -17,8 +19,51 @@ use mol_namesakes::{Declaration, Namesakes};
 use mol_signatures::MemberKind;
 use std::alloc::Global;
 
+/// As many ancestors of a class are gone up to, one after another, in about the time that a look at the methods of all classes takes.
+const FEW: u32 = 16;
+
+/// The methods of so many files, where some class has more than a few ancestors. The time is near-linear. `Err` is want of memory.
+pub(crate) fn methods_if_deep<'a>(
+    alloc: Global,
+    scope: &Scope<'_>,
+    members: &'a Members<'a>,
+    count: u32,
+) -> Result<Option<Namesakes<'a>>, OutOfMemory>
+    requires { count ≡ length members.now }
+    ensures { IfOk result (λ kept. IfSome kept (λ methods. map header_of_declaration methods ≡ methods_in (all_rows (files_of members.now)))) }
+{
+    if is_deep(scope, count) {
+        let methods = all_methods(alloc, members, count)?;
+        Ok(Some(methods))
+    } else {
+        Ok(None)
+    }
+}
+
+/// Whether some class of so many has more than a few ancestors.
+fn is_deep(scope: &Scope<'_>, count: u32) -> bool {
+    for unit in 0..count {
+        if has_many_ancestors(scope, unit) {
+            return true;
+        }
+    }
+    false
+}
+
+/// Whether a class has more than a few ancestors.
+fn has_many_ancestors(scope: &Scope<'_>, unit: u32) -> bool {
+    let mut at = unit;
+    for _step in 0..=FEW {
+        match next_up(scope, unit, at) {
+            Some(next) => at = next,
+            None => return false,
+        }
+    }
+    true
+}
+
 /// The methods of so many files, to be asked for namesakes. The time is near-linear. `Err` is want of memory.
-pub(crate) fn all_methods<'a>(
+fn all_methods<'a>(
     alloc: Global,
     members: &'a Members<'a>,
     count: u32,

@@ -1,5 +1,5 @@
 //! The faults between members.
-ghost use Rattle.std.specs.Prelude.{◌≡◌, ◌<◌, IfOk, Some, flat_map, length, slice_get};
+ghost use Rattle.std.specs.Prelude.{◌≡◌, ◌<◌, IfOk, IfSome, Some, flat_map, length, slice_get};
 ghost use Rattle.jav_scope.specs.declared.source.SourceUnit.{SourceUnit};
 ghost use Rattle.mol_beside.specs.Between.{faulty_below, faulty_here};
 ghost use Rattle.mol_beside.specs.Classes.{either, rows_above, rows_of};
@@ -13,7 +13,7 @@ ghost use Rattle.mol_spell.specs.MemberFaults.{a_method};
 ghost use Rattle.mol_spell.specs.ResolveFaults.{rows as all_rows, rows_in};
 
 use crate::class_members::ClassMembers;
-use crate::methods::{all_methods, faulty_beside, has_fault};
+use crate::methods::{faulty_beside, has_fault, methods_if_deep};
 use crate::rows::place_of;
 use jav_ancestors::next_up;
 use jav_scope::Scope;
@@ -33,8 +33,8 @@ pub struct Related<'a> {
     members: &'a Members<'a>,
     /// Of each file those of its class.
     classes: Vec<ClassMembers<'a>>,
-    /// Those of all classes.
-    methods: Namesakes<'a>,
+    /// Those of all classes, where some class has more than a few ancestors.
+    methods: Option<Namesakes<'a>>,
 }
 
 impl<'a> Model for Related<'a> {
@@ -67,7 +67,7 @@ impl<'a> Related<'a> {
     {
         let count = number_of(count)?;
         let classes = classes_of(alloc, members, count)?;
-        let methods = all_methods(alloc, members, count)?;
+        let methods = methods_if_deep(alloc, scope, members, count)?;
         Ok(Related {
             scope,
             members,
@@ -118,21 +118,28 @@ impl<'a> Related<'a> {
     fn faulty_above(&self, unit: u32, row: &'a MemberRow<'a>) -> Faulty
         ensures { faulty_of result ≡ faulty_below a_method (rows_above (files_of self.now) unit) (kept_row row.now) }
     {
-        let among_all = self.faulty_among_all(row);
         // To go up from each method of a long chain of classes would take the square of its length. Most methods are as all their
         // namesakes are, and so need it not.
-        if has_fault(&among_all) {
-            self.faulty_upwards(unit, row)
-        } else {
-            among_all
+        match self.faulty_among_all(row) {
+            Some(among_all) => {
+                if has_fault(&among_all) {
+                    self.faulty_upwards(unit, row)
+                } else {
+                    among_all
+                }
+            },
+            None => self.faulty_upwards(unit, row),
         }
     }
 
-    /// The faults that a method would have if all classes were ancestors of its class.
-    fn faulty_among_all(&self, row: &'a MemberRow<'a>) -> Faulty
-        ensures { faulty_of result ≡ faulty_below a_method (all_rows (files_of self.now)) (kept_row row.now) }
+    /// The faults that a method would have if all classes were ancestors of its class, where the methods of all are kept.
+    fn faulty_among_all(&self, row: &'a MemberRow<'a>) -> Option<Faulty>
+        ensures { IfSome result (λ faulty. faulty_of faulty ≡ faulty_below a_method (all_rows (files_of self.now)) (kept_row row.now)) }
     {
-        faulty_beside(&self.methods, row)
+        match &self.methods {
+            Some(methods) => Some(faulty_beside(methods, row)),
+            None => None,
+        }
     }
 
     /// The faults of a method beside the methods of one ancestor of its class after another.

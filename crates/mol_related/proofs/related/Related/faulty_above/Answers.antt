@@ -7,6 +7,6 @@ use Rattle.mol_related.proofs.related.Related.faulty_above.Goals as goal
 
 pub returns-else-has_fault : goal.returns-else-has_fault
 returns-else-has_fault c =
-    c.faulty_among_all-among_all.ensures
+    c.in-Some.ensures
     ∙ none-above (files_of c.args.self.now) c.args.unit (kept_row c.args.row.now)
-    (ap has_fault (sym c.faulty_among_all-among_all.ensures) ∙ sym c.has_fault.ensures ∙ c.if-has_fault.false)
+    (ap has_fault (sym c.in-Some.ensures) ∙ sym c.has_fault.ensures ∙ c.if-has_fault.false)
