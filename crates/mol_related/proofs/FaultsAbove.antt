@@ -1,5 +1,5 @@
 -- The faults of a method beside the methods of one ancestor after another.
-use Rattle.std.proofs.Common.{◌≡◌, ℕ, ◌-◌, ◌<◌, Bool, true, false, ◌||◌, ◌&&◌, not, ◌==◌, if◌then◌else◌, List, [], ◌∷◌, ◌++◌, length, flat_map, Option, Some, None, refl, sym, ◌∙◌, ap, subst, arith}
+use Rattle.std.proofs.Common.{◌≡◌, ℕ, ◌-◌, ◌<◌, Bool, true, false, ◌||◌, ◌&&◌, not, ◌==◌, if◌then◌else◌, List, [], ◌∷◌, ◌++◌, length, flat_map, Contains, Option, Some, None, slice_get, true≢false, refl, sym, ◌∙◌, ap, subst, arith}
 use Rattle.std.specs.List.{list_any}
 use Rattle.std.proofs.lemmas.List.Folds.{list_any-append}
 use Rattle.jav_ancestors.specs.Steps.{next_up, steps_up, unless_from}
@@ -9,16 +9,22 @@ use Rattle.jav_ascent.proofs.ClassNumbers.{class-below}
 use Rattle.jav_scope.specs.Entries.{units_of, view_in}
 use Rattle.jav_scope.specs.declared.source.SourceUnit.{SourceUnit}
 use Rattle.jav_view.specs.LookUps.{ancestors, class_above}
-use Rattle.jav_view.specs.UnitViews.{MemberKey}
+use Rattle.jav_view.specs.UnitViews.{MemberKey, numbered}
 use Rattle.jav_view.specs.Views.{View}
+use Rattle.jav_view.proofs.Lists.{stands_nowhere}
 use Rattle.jav_view.proofs.UnitsOrdered.{classes_of-ordered}
 use Rattle.jav_view.proofs.Ways.{class_above-is}
 use Rattle.mol_beside.specs.Beside.{Faulty}
 use Rattle.mol_beside.specs.Between.{are_namesakes, faulty_below, faulty_here, gives_same, takes_same}
-use Rattle.mol_beside.specs.Classes.{either, rows_above, rows_of}
+use Rattle.mol_beside.specs.Classes.{either, rows_above, rows_if, rows_of}
+use Rattle.mol_beside.proofs.KindsNoted.{any-there, there-any}
 use Rattle.mol_sources.specs.Sources.{files_of}
 use Rattle.mol_sources.proofs.Sourced.{sources_viewed}
+use Rattle.mol_spell.specs.Files.{File, Files, files_view}
 use Rattle.mol_spell.specs.MemberFaults.{MemberKind, a_field, a_method, a_constructor, Row}
+use Rattle.mol_spell.specs.ResolveFaults.{rows_in, rows as all_rows}
+use Rattle.mol_spell.proofs.Stands.{from_each, in_each, in_numbered}
+use Rattle.mol_related.specs.Compared.{has_fault}
 
 -- ---- tests of lists that come one after another
 
@@ -76,6 +82,47 @@ below-append xs ys row = λ i. record {
   result = list_any-append (λ first. are_namesakes a_method first row && not (gives_same first row)) xs ys i;
   static = list_any-append (λ first. are_namesakes a_method first row && (first.is_static || row.is_static)) xs ys i;
 }
+
+-- ---- where no method of any class differs
+
+or-none : (a b : Bool) → (a || b) ≡ false → (a ≡ false) × (b ≡ false)
+or-none true b is = absurd cc
+or-none false b is = (refl, is)
+
+module _ (files : Files) (unit : ℕ) where
+  class-row : (class : ℕ) (row : Row ℕ) → Contains (rows_of files class) row → Contains (all_rows files) row
+  class-row class row = by (slice_get files class) refl where
+    by : (o : Option File) → slice_get files class ≡ o → Contains (rows_if files class o) row → Contains (all_rows files) row
+    by None is stands = absurd (stands_nowhere row stands)
+    by (Some file) is stands = in_each (rows_in files) (numbered files) (class, file) row (in_numbered files class file is) stands
+
+  above-row : (row : Row ℕ) → Contains (rows_above files unit) row → Contains (all_rows files) row
+  above-row row stands =
+      let of_class = from_each (rows_of files) (ancestors (files_view files) unit) row stands in
+      class-row of_class.0 row of_class.2
+
+  -- a test that no row passes no row above passes
+  never-above : (p : Row ℕ → Bool) → list_any p (all_rows files) ≡ false
+      → list_any p (all_rows files) ≡ list_any p (rows_above files unit)
+  never-above p never = never ∙ sym (by (list_any p (rows_above files unit)) refl) where
+    by : (b : Bool) → list_any p (rows_above files unit) ≡ b → list_any p (rows_above files unit) ≡ false
+    by true some =
+        let found = there-any p (rows_above files unit) some in
+        absurd (true≢false (sym (any-there p (all_rows files) found.0 (above-row found.0 found.1) found.2) ∙ never))
+    by false none = none
+
+  pub none-above : (row : Row ℕ) → has_fault (faulty_below a_method (all_rows files) row) ≡ false
+      → faulty_below a_method (all_rows files) row ≡ faulty_below a_method (rows_above files unit) row
+  none-above row none =
+      let all = faulty_below a_method (all_rows files) row in
+      let overload = or-none all.overload (all.result || all.static) none in
+      let rest = or-none all.result all.static overload.1 in
+      λ i. record {
+        duplicate = false;
+        overload = never-above (λ first. are_namesakes a_method first row && not (takes_same first row)) overload.0 i;
+        result = never-above (λ first. are_namesakes a_method first row && not (gives_same first row)) rest.0 i;
+        static = never-above (λ first. are_namesakes a_method first row && (first.is_static || row.is_static)) rest.1 i;
+      }
 
 -- ---- going up
 

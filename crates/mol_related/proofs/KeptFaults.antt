@@ -3,6 +3,7 @@ use Rattle.std.proofs.Common.{◌≡◌, ℕ, nat_lt, ◌==◌, Bool, true, fals
 use Rattle.std.specs.List.{list_any}
 use Rattle.std.proofs.lemmas.List.{length-map}
 use Rattle.std.proofs.lemmas.List.Sorted.{list_any-IsPermutation}
+use Rattle.std.proofs.lemmas.Simd.{map-map}
 use Rattle.jav_types.specs.Kept.{view_type}
 use Rattle.jav_view.specs.StaticTypes.{same_type}
 use Rattle.mol_spell.specs.FaultLists.{same_kind, same_types}
@@ -14,7 +15,8 @@ use Rattle.mol_namesakes.specs.declared.declaration.Declaration.{Declaration}
 use Rattle.mol_namesakes.specs.declared.differences.Differences.{Differences}
 use Rattle.mol_beside.specs.Beside.{Faulty}
 use Rattle.mol_beside.specs.Between.{are_namesakes, faulty_below, faulty_here, is_before, repeats}
-use Rattle.mol_related.specs.Compared.{AreKept, Seen, SeenDeclared, differing, is_kind, seen_declaration, seen_declared, seen_row, seen_signature}
+use Rattle.mol_related.specs.Compared.{AreKept, MethodHeader, Seen, SeenDeclared, differing, header_of_declaration, header_of_row, is_kind, methods_in}
+use Rattle.mol_related.specs.Compared.{seen_declaration, seen_declared, seen_row, seen_signature}
 use Rattle.mol_related.specs.declared.class_members.ClassMembers.{ClassMembers}
 
 -- ---- lists
@@ -49,8 +51,16 @@ module _ (members : ClassMembers) (rows : List (Row ℕ)) (kept : AreKept member
 -- ---- namesakes
 
 -- of one name, and with as many parameters
-abbrev are_named : SeenDeclared → SeenDeclared → Bool
+abbrev are_named : MethodHeader → MethodHeader → Bool
 are_named first second = length first.params == length second.params && bytes_eq first.name second.name
+
+named-same : (n declaration : Declaration)
+    → namesakes.are_namesakes n declaration ≡ are_named (header_of_declaration n) (header_of_declaration declaration)
+named-same n declaration = λ i. (sym (length-map n.params.now view_type) i == sym (length-map declaration.params.now view_type) i)
+    && bytes_eq n.name.now declaration.name.now
+
+abbrev header_of : SeenDeclared → MethodHeader
+header_of seen = record { name = seen.name; params = seen.params; result = seen.result; is_static = seen.is_static }
 
 regroup : (kind named test : Bool) → (kind && (named && test)) ≡ ((kind && named) && test)
 regroup true named test = refl
@@ -62,78 +72,91 @@ regroup_before true true named test = refl
 regroup_before true false true test = refl
 regroup_before true false false test = refl
 
+-- some of the declarations pass a test beside one just where some rows of the kind do
+module _ {S : Type 0} (see : Declaration → S) (see_row : Row ℕ → S) (kind : MemberKind) (declared : List Declaration)
+    (rows : List (Row ℕ)) (same : map see declared ≡ map see_row (filter (is_kind kind) rows)) (declaration : Declaration) (row : Row ℕ)
+    (seen : see declaration ≡ see_row row) where
+  declared-pass : (test : S → S → Bool) → list_any (λ n. test (see n) (see declaration)) declared
+      ≡ list_any (λ first. is_kind kind first && test (see_row first) (see_row row)) rows
+  declared-pass test =
+      sym (any-mapped see (λ n. test n (see declaration)) declared)
+      ∙ (λ i. list_any (λ n. test n (seen i)) (same i))
+      ∙ any-mapped see_row (λ n. test n (see_row row)) (filter (is_kind kind) rows)
+      ∙ any-filtered (is_kind kind) (λ first. test (see_row first) (see_row row)) rows
+
+-- so of namesakes
+module _ (methods : List Declaration) (rows : List (Row ℕ)) (same : map header_of_declaration methods ≡ methods_in rows)
+    (declaration : Declaration) (row : Row ℕ) (seen : header_of_declaration declaration ≡ header_of_row row)
+    (test : MethodHeader → MethodHeader → Bool) where
+  namesakes-pass : list_any (λ n. namesakes.are_namesakes n declaration
+      && test (header_of_declaration n) (header_of_declaration declaration)) methods
+      ≡ list_any (λ first. are_namesakes a_method first row && test (header_of_row first) (header_of_row row)) rows
+  namesakes-pass =
+      (λ i. list_any (λ n. named-same n declaration i && test (header_of_declaration n) (header_of_declaration declaration)) methods)
+      ∙ declared-pass header_of_declaration header_of_row a_method methods rows same declaration row seen
+      (λ n d. are_named n d && test n d)
+      ∙ (λ i. list_any (λ first. regroup (is_kind a_method first) (are_named (header_of_row first) (header_of_row row))
+      (test (header_of_row first) (header_of_row row)) i) rows)
+
+-- and of those that stand before it
 module _ (kind : MemberKind) (declared : List Declaration) (rows : List (Row ℕ))
     (same : map seen_declaration declared ≡ map seen_declared (filter (is_kind kind) rows)) (declaration : Declaration) (row : Row ℕ)
-    (seen : seen_declaration declaration ≡ seen_declared row) where
-  -- some of the declarations pass a test beside this just where some rows of the kind do
-  declared-pass : (test : SeenDeclared → SeenDeclared → Bool)
-      → list_any (λ n. test (seen_declaration n) (seen_declaration declaration)) declared
-      ≡ list_any (λ first. is_kind kind first && test (seen_declared first) (seen_declared row)) rows
-  declared-pass test =
-      sym (any-mapped seen_declaration (λ n. test n (seen_declaration declaration)) declared)
-      ∙ (λ i. list_any (λ n. test n (seen i)) (same i))
-      ∙ any-mapped seen_declared (λ n. test n (seen_declared row)) (filter (is_kind kind) rows)
-      ∙ any-filtered (is_kind kind) (λ first. test (seen_declared first) (seen_declared row)) rows
+    (seen : seen_declaration declaration ≡ seen_declared row) (test : MethodHeader → MethodHeader → Bool) where
+  abbrev passes : Declaration → Bool
+  passes n = test (header_of_declaration n) (header_of_declaration declaration)
 
-  named-same : (n : Declaration) → namesakes.are_namesakes n declaration ≡ are_named (seen_declaration n) (seen_declaration declaration)
-  named-same n = λ i. (sym (length-map n.params.now view_type) i == sym (length-map declaration.params.now view_type) i)
-      && bytes_eq n.name.now declaration.name.now
-
-  module _ (test : SeenDeclared → SeenDeclared → Bool) where
-    abbrev passes : Declaration → Bool
-    passes n = test (seen_declaration n) (seen_declaration declaration)
-
-    pub namesakes-pass : list_any (λ n. namesakes.are_namesakes n declaration && passes n) declared
-        ≡ list_any (λ first. are_namesakes kind first row && test (seen_declared first) (seen_declared row)) rows
-    namesakes-pass =
-        (λ i. list_any (λ n. named-same n i && passes n) declared)
-        ∙ declared-pass (λ n d. are_named n d && test n d)
-        ∙ (λ i. list_any (λ first. regroup (is_kind kind first) (are_named (seen_declared first) (seen_declared row))
-        (test (seen_declared first) (seen_declared row)) i) rows)
-
-    -- and those that stand before it
-    pub earlier-pass : list_any (λ n. namesakes.are_namesakes n declaration && passes n)
-        (filter (λ n. nat_lt n.place declaration.place) declared)
-        ≡ list_any (λ first. are_namesakes kind first row && (is_before first row && test (seen_declared first) (seen_declared row))) rows
-    earlier-pass =
-        any-filtered (λ n. nat_lt n.place declaration.place) (λ n. namesakes.are_namesakes n declaration && passes n) declared
-        ∙ (λ i. list_any (λ n. nat_lt n.place declaration.place && (named-same n i && passes n)) declared)
-        ∙ declared-pass (λ n d. nat_lt n.place d.place && (are_named n d && test n d))
-        ∙ (λ i. list_any (λ first. regroup_before (is_kind kind first) (is_before first row)
-        (are_named (seen_declared first) (seen_declared row)) (test (seen_declared first) (seen_declared row)) i) rows)
+  earlier-pass : list_any (λ n. namesakes.are_namesakes n declaration && passes n)
+      (filter (λ n. nat_lt n.place declaration.place) declared)
+      ≡ list_any (λ first. are_namesakes kind first row
+      && (is_before first row && test (header_of_row first) (header_of_row row))) rows
+  earlier-pass =
+      any-filtered (λ n. nat_lt n.place declaration.place) (λ n. namesakes.are_namesakes n declaration && passes n) declared
+      ∙ (λ i. list_any (λ n. nat_lt n.place declaration.place && (named-same n declaration i && passes n)) declared)
+      ∙ declared-pass seen_declaration seen_declared kind declared rows same declaration row seen
+      (λ n d. nat_lt n.place d.place && (are_named (header_of n) (header_of d) && test (header_of n) (header_of d)))
+      ∙ (λ i. list_any (λ first. regroup_before (is_kind kind first) (is_before first row)
+      (are_named (header_of_row first) (header_of_row row)) (test (header_of_row first) (header_of_row row)) i) rows)
 
 -- ---- faults
 
-abbrev differ_in_types : SeenDeclared → SeenDeclared → Bool
+abbrev differ_in_types : MethodHeader → MethodHeader → Bool
 differ_in_types first second = not (same_types nat_cmp first.params second.params)
 
-abbrev differ_in_result : SeenDeclared → SeenDeclared → Bool
+abbrev differ_in_result : MethodHeader → MethodHeader → Bool
 differ_in_result first second = not (same_type nat_cmp first.result second.result)
 
-abbrev one_is_static : SeenDeclared → SeenDeclared → Bool
+abbrev one_is_static : MethodHeader → MethodHeader → Bool
 one_is_static first second = first.is_static || second.is_static
 
-module _ (members : ClassMembers) (rows : List (Row ℕ)) (kept : AreKept members rows) (declaration : Declaration) (row : Row ℕ)
-    (seen : seen_declaration declaration ≡ seen_declared row) where
-  pub method-differs_before : namesakes.differences_before declaration members.methods ≡ differing (faulty_here a_method rows row)
-  method-differs_before = λ i. record {
-    types = earlier-pass a_method members.methods rows kept.methods declaration row seen differ_in_types i;
-    result = earlier-pass a_method members.methods rows kept.methods declaration row seen differ_in_result i;
-  }
-
-  pub constructor-differs_before : (namesakes.differences_before declaration members.constructors).types
-      ≡ (faulty_here a_constructor rows row).overload
-  constructor-differs_before =
-      earlier-pass a_constructor members.constructors rows kept.constructors declaration row seen differ_in_types
-
-  pub method-differs : namesakes.differences declaration members.methods ≡ differing (faulty_below a_method rows row)
+-- beside methods of other classes
+module _ (methods : List Declaration) (rows : List (Row ℕ)) (same : map header_of_declaration methods ≡ methods_in rows)
+    (declaration : Declaration) (row : Row ℕ) (seen : seen_declaration declaration ≡ seen_declared row) where
+  pub method-differs : namesakes.differences declaration methods ≡ differing (faulty_below a_method rows row)
   method-differs = λ i. record {
-    types = namesakes-pass a_method members.methods rows kept.methods declaration row seen differ_in_types i;
-    result = namesakes-pass a_method members.methods rows kept.methods declaration row seen differ_in_result i;
+    types = namesakes-pass methods rows same declaration row (ap header_of seen) differ_in_types i;
+    result = namesakes-pass methods rows same declaration row (ap header_of seen) differ_in_result i;
   }
 
-  pub method-hides : namesakes.hides_static declaration members.methods ≡ (faulty_below a_method rows row).static
-  method-hides = namesakes-pass a_method members.methods rows kept.methods declaration row seen one_is_static
+  pub method-hides : namesakes.hides_static declaration methods ≡ (faulty_below a_method rows row).static
+  method-hides = namesakes-pass methods rows same declaration row (ap header_of seen) one_is_static
+
+-- beside members of its class
+module _ (members : ClassMembers) (rows : List (Row ℕ)) (kept : AreKept members rows) where
+  pub methods-kept : map header_of_declaration members.methods ≡ methods_in rows
+  methods-kept = sym (map-map header_of seen_declaration members.methods) ∙ ap (map header_of) kept.methods
+      ∙ map-map header_of seen_declared (filter (is_kind a_method) rows)
+
+  module _ (declaration : Declaration) (row : Row ℕ) (seen : seen_declaration declaration ≡ seen_declared row) where
+    pub method-differs_before : namesakes.differences_before declaration members.methods ≡ differing (faulty_here a_method rows row)
+    method-differs_before = λ i. record {
+      types = earlier-pass a_method members.methods rows kept.methods declaration row seen differ_in_types i;
+      result = earlier-pass a_method members.methods rows kept.methods declaration row seen differ_in_result i;
+    }
+
+    pub constructor-differs_before : (namesakes.differences_before declaration members.constructors).types
+        ≡ (faulty_here a_constructor rows row).overload
+    constructor-differs_before =
+        earlier-pass a_constructor members.constructors rows kept.constructors declaration row seen differ_in_types
 
 -- ---- from their parts
 

@@ -48,7 +48,7 @@ module _ {X : Type 0} (place : X → ℕ) where
     above [] all = all
     above (y ∷ ys) all = (all.0, above ys all.1)
 
-  from_places : (xs : List X) → IsStrictlySortedBy nat_cmp (map place xs) → IsStrictlySortedBy (on place nat_cmp) xs
+  pub from_places : (xs : List X) → IsStrictlySortedBy nat_cmp (map place xs) → IsStrictlySortedBy (on place nat_cmp) xs
   unfolding IsStrictlySortedBy
   from_places [] up = up
   from_places (x ∷ xs) up = (above xs up.0, from_places xs up.1) where
@@ -56,6 +56,9 @@ module _ {X : Type 0} (place : X → ℕ) where
         → AllByRecursion (λ y. nat_cmp (place x) (place y) ≡ Less) ys
     above [] all = all
     above (y ∷ ys) all = (all.0, above ys all.1)
+
+pub less : (a b : ℕ) → a < b → nat_cmp a b ≡ Less
+less a b below = ap (λ test. cond test Less (cond (a == b) Equal Greater)) (lt-ltb a b below)
 
 -- declarations of a kind are in the order of their rows
 pub declared-in_order : (kind : MemberKind) (rows : List (Row ℕ)) (declared : List Declaration) → StandInOrder rows
@@ -79,9 +82,6 @@ module _ (see : TypeName → ViewType ℕ) (class : ℕ) where
   placed place (member.Field field) = refl
   placed place (member.Method method) = refl
   placed place (member.Ctor constructor) = refl
-
-  less : (a b : ℕ) → a < b → nat_cmp a b ≡ Less
-  less a b below = ap (λ test. cond test Less (cond (a == b) Equal Greater)) (lt-ltb a b below)
 
   later : (n k : ℕ) (kept : Member) → n < k → (members : List Member)
       → AllByRecursion (λ row. nat_cmp (row_of see class (n, kept)).place row.place ≡ Less)

@@ -1,5 +1,5 @@
 -- Members as they are kept to be compared, and the rows by which the definitions compare them.
-use Rattle.std.specs.Prelude.{◌≡◌, ℕ, Bool, List, map, filter}
+use Rattle.std.specs.Prelude.{◌≡◌, ℕ, Bool, ◌||◌, List, map, filter}
 use Rattle.std.specs.List.Sorted.{IsPermutation, IsStrictlySortedBy}
 use Rattle.std.specs.Ordering.{nat_cmp, on}
 use Rattle.jav_types.specs.Kept.{view_type}
@@ -54,6 +54,28 @@ seen_declared row =
 abbrev pub is_kind : MemberKind → Row ℕ → Bool
 is_kind kind row = same_kind row.kind kind
 
+-- a declaration by its name, the types that it takes and gives, and whether it is static
+pub record MethodHeader : Type 0 where
+  pub name : Name
+  pub params : List (ViewType ℕ)
+  pub result : ViewType ℕ
+  pub is_static : Bool
+
+abbrev pub header_of_declaration : Declaration → MethodHeader
+header_of_declaration declaration = record {
+  name = declaration.name.now;
+  params = types_taken declaration;
+  result = view_type declaration.result.now;
+  is_static = declaration.is_static;
+}
+
+abbrev pub header_of_row : Row ℕ → MethodHeader
+header_of_row row = record { name = row.name; params = row.params; result = row.type; is_static = row.is_static }
+
+-- the methods among these members
+abbrev pub methods_in : List (Row ℕ) → List MethodHeader
+methods_in rows = map header_of_row (filter (is_kind a_method) rows)
+
 -- The rows stand in the class in this order.
 abbrev pub StandInOrder : List (Row ℕ) → Type 0
 StandInOrder rows = IsStrictlySortedBy (on (λ row. row.place) nat_cmp) rows
@@ -69,3 +91,7 @@ pub record AreKept (members : ClassMembers) (rows : List (Row ℕ)) : Type 0 whe
 -- of the faults of a member those by which its namesakes differ from it
 abbrev pub differing : Faulty → Differences
 differing faulty = record { types = faulty.overload; result = faulty.result }
+
+-- there is some fault
+abbrev pub has_fault : Faulty → Bool
+has_fault faulty = faulty.duplicate || (faulty.overload || (faulty.result || faulty.static))

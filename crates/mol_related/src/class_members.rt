@@ -6,9 +6,10 @@ ghost use Rattle.mol_members.specs.Rows.{kept_row};
 ghost use Rattle.mol_related.specs.Compared.{AreKept, StandInOrder, differing, is_kind};
 ghost use Rattle.mol_related.specs.Compared.{seen_declaration, seen_declared, seen_row, seen_signature};
 ghost use Rattle.mol_signatures.specs.Repeats.{kind_of as signature_kind};
-ghost use Rattle.mol_spell.specs.MemberFaults.{Row, a_constructor, a_method};
+ghost use Rattle.mol_spell.specs.MemberFaults.{Row, a_method};
 
-use crate::rows::{declaration, kind_of, signature};
+use crate::methods::faulty_beside;
+use crate::rows::{declaration, is_kind, signature};
 use jav_tree::Member;
 use mol_base::OutOfMemory;
 use mol_beside::Faulty;
@@ -83,14 +84,7 @@ impl<'a> ClassMembers<'a> {
         ensures { (rows : List (Row ℕ)) → AreKept self.now rows
             → faulty_of result ≡ faulty_below a_method rows (kept_row row.now) }
     {
-        let method = declaration(row);
-        let differences = self.methods.differences(&method);
-        Faulty {
-            duplicate: false,
-            overload: differences.types,
-            result: differences.result,
-            hides_static: self.methods.hides_static(&method),
-        }
+        faulty_beside(&self.methods, row)
     }
 }
 
@@ -138,11 +132,4 @@ fn declared<'a>(
         }
     }
     Ok(declared)
-}
-
-/// Whether a member is of this kind.
-fn is_kind(row: &MemberRow<'_>, kind: MemberKind) -> bool
-    ensures { result ≡ is_kind (signature_kind kind) (kept_row row.now) }
-{
-    kind_of(row.member) == kind
 }

@@ -2,6 +2,7 @@
 #![tactic(auto)]
 
 mod class_members;
+mod methods;
 mod related;
 mod rows;
 

@@ -1,5 +1,5 @@
 //! The faults between members.
-ghost use Rattle.std.specs.Prelude.{◌≡◌, ◌<◌, IfOk, Some, flat_map, length, slice_get};
+ghost use Rattle.std.specs.Prelude.{◌≡◌, ◌<◌, IfOk, IfSome, Some, flat_map, length, slice_get};
 ghost use Rattle.jav_scope.specs.declared.source.SourceUnit.{SourceUnit};
 ghost use Rattle.mol_beside.specs.Between.{faulty_below, faulty_here};
 ghost use Rattle.mol_beside.specs.Classes.{either, rows_above, rows_of};
@@ -10,9 +10,10 @@ ghost use Rattle.mol_related.specs.Tables.{AreKeptOf};
 ghost use Rattle.mol_sources.specs.Sources.{file_of, files_of};
 ghost use Rattle.mol_spell.specs.FaultLists.{faults_beside};
 ghost use Rattle.mol_spell.specs.MemberFaults.{a_method};
-ghost use Rattle.mol_spell.specs.ResolveFaults.{rows_in};
+ghost use Rattle.mol_spell.specs.ResolveFaults.{rows as all_rows, rows_in};
 
 use crate::class_members::ClassMembers;
+use crate::methods::{faulty_beside, has_fault, methods_if_deep};
 use crate::rows::place_of;
 use jav_ancestors::next_up;
 use jav_scope::Scope;
@@ -21,6 +22,7 @@ use mol_base::{OutOfMemory, number_of};
 use mol_beside::Faulty;
 use mol_members::{MemberRow, Members};
 use mol_name_faults::FirstFault;
+use mol_namesakes::Namesakes;
 use std::alloc::Global;
 use std::marker::Model;
 
@@ -31,6 +33,8 @@ pub struct Related<'a> {
     members: &'a Members<'a>,
     /// Of each file those of its class.
     classes: Vec<ClassMembers<'a>>,
+    /// Those of all classes, where some class has more than a few ancestors.
+    methods: Option<Namesakes<'a>>,
 }
 
 impl<'a> Model for Related<'a> {
@@ -46,7 +50,7 @@ impl<'a> Model for Related<'a> {
 
     ghost view = { λ related. related.scope.now };
 
-    ghost invariant = { λ related. AreRelated related.scope.now related.members.now related.classes.items };
+    ghost invariant = { λ related. AreRelated related.scope.now related.members.now related.classes.items related.methods };
 }
 
 impl<'a> Related<'a> {
@@ -63,15 +67,18 @@ impl<'a> Related<'a> {
     {
         let count = number_of(count)?;
         let classes = classes_of(alloc, members, count)?;
+        let methods = methods_if_deep(alloc, scope, members, count)?;
         Ok(Related {
             scope,
             members,
             classes,
+            methods,
         })
     }
 
     /// Notes the faults of the members of the file of this number, beside the others of their class and beside those of its ancestors
-    /// (JLS 8.3, 8.4.2, 8.4.8, 8.8.2). It takes no memory. The time is a look-up for each member, and for each method and ancestor.
+    /// (JLS 8.3, 8.4.2, 8.4.8, 8.8.2). It takes no memory. The time is that of a few look-ups for each member. A method takes one more for
+    /// each ancestor of its class where, in any class, some method of its name and number of parameters is static or has other types.
     pub fn note(&self, faults: &mut FirstFault, unit: u32)
         requires { unit < length self.now }
         ensures { (source : SourceUnit) → slice_get self.now unit ≡ Some source → faults.new
@@ -109,6 +116,34 @@ impl<'a> Related<'a> {
 
     /// The faults of a method beside the methods of the ancestors of its class.
     fn faulty_above(&self, unit: u32, row: &'a MemberRow<'a>) -> Faulty
+        ensures { faulty_of result ≡ faulty_below a_method (rows_above (files_of self.now) unit) (kept_row row.now) }
+    {
+        // To go up from each method of a long chain of classes would take the square of its length. Most methods are as all their
+        // namesakes are, and so need it not.
+        match self.faulty_among_all(row) {
+            Some(among_all) => {
+                if has_fault(&among_all) {
+                    self.faulty_upwards(unit, row)
+                } else {
+                    among_all
+                }
+            },
+            None => self.faulty_upwards(unit, row),
+        }
+    }
+
+    /// The faults that a method would have if all classes were ancestors of its class, where the methods of all are kept.
+    fn faulty_among_all(&self, row: &'a MemberRow<'a>) -> Option<Faulty>
+        ensures { IfSome result (λ faulty. faulty_of faulty ≡ faulty_below a_method (all_rows (files_of self.now)) (kept_row row.now)) }
+    {
+        match &self.methods {
+            Some(methods) => Some(faulty_beside(methods, row)),
+            None => None,
+        }
+    }
+
+    /// The faults of a method beside the methods of one ancestor of its class after another.
+    fn faulty_upwards(&self, unit: u32, row: &'a MemberRow<'a>) -> Faulty
         ensures { faulty_of result ≡ faulty_below a_method (rows_above (files_of self.now) unit) (kept_row row.now) }
     {
         let mut faulty = Faulty {

@@ -3,7 +3,7 @@ ghost use Rattle.std.specs.Prelude.{◌≡◌};
 ghost use Rattle.mol_members.specs.Rows.{kept_row, kind_of, name_of};
 ghost use Rattle.mol_spell.specs.Files.{place_of_member};
 ghost use Rattle.mol_signatures.specs.Repeats.{kind_of as signature_kind};
-ghost use Rattle.mol_related.specs.Compared.{seen_declaration, seen_declared, seen_row, seen_signature};
+ghost use Rattle.mol_related.specs.Compared.{is_kind, seen_declaration, seen_declared, seen_row, seen_signature};
 
 use jav_tree::Member;
 use mol_members::MemberRow;
@@ -36,7 +36,7 @@ pub(crate) fn declaration<'a>(row: &'a MemberRow<'a>) -> Declaration<'a>
 }
 
 /// What a member is.
-pub(crate) fn kind_of(member: &Member) -> MemberKind
+fn kind_of(member: &Member) -> MemberKind
     ensures { signature_kind result ≡ kind_of member.now }
 {
     match member {
@@ -44,6 +44,13 @@ pub(crate) fn kind_of(member: &Member) -> MemberKind
         Member::Method(_) => MemberKind::Method,
         Member::Ctor(_) => MemberKind::Constructor,
     }
+}
+
+/// Whether a member is of this kind.
+pub(crate) fn is_kind(row: &MemberRow<'_>, kind: MemberKind) -> bool
+    ensures { result ≡ is_kind (signature_kind kind) (kept_row row.now) }
+{
+    kind_of(row.member) == kind
 }
 
 /// The bytes of its name; none of a constructor.

@@ -1,12 +1,5 @@
-use Rattle.std.proofs.Common.{◌∙◌}
-use Rattle.mol_members.specs.Rows.{kept_row}
-use Rattle.mol_related.proofs.KeptFaults.{below-made, method-differs, method-hides}
+use Rattle.mol_related.proofs.KeptFaults.{methods-kept}
 use Rattle.mol_related.proofs.class_members.ClassMembers.faulty_below.Goals as goal
 
 pub returns : goal.returns
-returns c = λ rows kept.
-    let row = kept_row c.args.row.now in
-    let method = c.declaration-method.result in
-    below-made rows row c.differences-differences.result c.hides_static.result
-    (c.differences-differences.ensures ∙ method-differs c.args.self.now rows kept method row c.declaration-method.ensures)
-    (c.hides_static.ensures ∙ method-hides c.args.self.now rows kept method row c.declaration-method.ensures)
+returns c = λ rows kept. c.faulty_beside.ensures rows (methods-kept c.args.self.now rows kept)
