@@ -1,5 +1,5 @@
 -- What the names of files use, as it is kept: at the classes of the files.
-use Rattle.std.specs.Prelude.{◌≡◌, ◌⊎◌, cond, if◌then◌else◌, List, Option, Some, None}
+use Rattle.std.specs.Prelude.{◌≡◌, ◌⊎◌, ◌∷◌, cond, if◌then◌else◌, List, Option, Some, None}
 use Rattle.std.specs.List.{Contains}
 use Rattle.std.specs.Map.{lookup}
 use Rattle.mol_base.specs.declared.ident.Id.{Id}
@@ -26,3 +26,7 @@ AreUsesBut program rest kept = (class : Id)
 abbrev pub PutsUses : Program → Id → List (Id × List Use) → List (Id × List Use) → Type 0
 PutsUses program class old new = (asked : Id)
     → lookup (id_eq asked) new ≡ cond (id_eq class asked) (Some (uses_in program class)) (lookup (id_eq asked) old)
+
+-- one identity more may no longer be without what stands there
+abbrev pub KeepsUses : Program → Id → List (Id × List Use) → List (Id × List Use) → Type 0
+KeepsUses program id old new = (rest : List Id) → AreUsesBut program (id ∷ rest) old → AreUsesBut program rest new

@@ -1,6 +1,6 @@
 //! What the names of files use.
 ghost use Rattle.std.specs.Prelude.{◌≡◌, IfOk, OnOk};
-ghost use Rattle.mol_program_index.specs.KeptUses.{AreUses, PutsUses};
+ghost use Rattle.mol_program_index.specs.KeptUses.{AreUses, KeepsUses, PutsUses};
 
 use indexmap::IndexMap;
 use mol_base::{Id, OutOfMemory};
@@ -21,11 +21,27 @@ pub(crate) fn kept_uses(
     let mut kept = IndexMap::new(alloc);
     let ids = names.table().ids();
     for class in ids {
-        if is_living_class(names.table(), class) {
-            keep_uses(alloc, &mut kept, names, members, class)?;
-        }
+        keep_living(alloc, &mut kept, names, members, class)?;
     }
     Ok(kept)
+}
+
+/// Keeps what the names in the file of a class use, where the class lives.
+fn keep_living(
+    alloc: Global,
+    kept: &mut IndexMap<Id, Uses>,
+    names: &MemberIndex<'_>,
+    members: &ClassMembers<'_>,
+    class: &Id,
+) -> Result<(), OutOfMemory>
+    requires { members.now ≡ names.now }
+    ensures { OnOk result (KeepsUses names.now class.now kept.old.entries kept.new.entries) }
+{
+    if is_living_class(names.table(), class) {
+        keep_uses(alloc, kept, names, members, class)
+    } else {
+        Ok(())
+    }
 }
 
 /// Keeps what the names in the file of a class use.

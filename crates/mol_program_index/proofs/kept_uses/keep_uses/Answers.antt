@@ -1,4 +1,4 @@
-use Rattle.std.proofs.Common.{◌∙◌, Some, cond, ap}
+use Rattle.std.proofs.Common.{◌∙◌, List, Some, cond, ap}
 use Rattle.std.specs.Map.{lookup}
 use Rattle.mol_base.specs.declared.ident.Id.{Id}
 use Rattle.mol_program_index.proofs.kept_uses.keep_uses.Goals as goal

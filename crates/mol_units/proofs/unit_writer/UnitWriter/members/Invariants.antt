@@ -5,4 +5,4 @@ use Rattle.mol_units.proofs.unit_writer.UnitWriter.members.Given as goal
 
 abbrev pub invariant-loop-member : goal.invariant-loop-member
 invariant-loop-member g l =
-    l.trees ≡ filter_map (spelled_member l.self.index.now l.self.class) (map member_entry (take l.member-index l.member-items))
+    l.trees ≡ filter_map (spelled_member l.self.index.now l.self.class) (map member_entry (take l.member-index l.members))
