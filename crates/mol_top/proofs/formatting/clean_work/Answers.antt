@@ -10,8 +10,8 @@ returns-in_err-refuse_unclean-clause-stop g c =
 pub returns-in-Ok-clause-work : goal.returns-in-Ok-clause-work
 returns-in-Ok-clause-work g c = record { clean = c.in_ok-refuse_unclean.ensures.clean; made = c.in-Ok.ensures.work }
 
-pub returns-clause-stop : goal.returns-clause-stop
-returns-clause-stop g c = inr (record {
+pub returns-in-Err-clause-stop : goal.returns-in-Err-clause-stop
+returns-in-Err-clause-stop g c = inr (record {
   clean = c.in_ok-refuse_unclean.ensures.clean;
   fault = c.in-Err.fault;
   stops = c.in-Err.ensures.stop;

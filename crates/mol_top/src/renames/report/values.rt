@@ -1,5 +1,5 @@
 //! Values as JSON, in its compact form.
-ghost use Rattle.std.specs.Prelude.{◌≡◌, ◌++◌, IfOk, OnOk};
+ghost use Rattle.std.specs.Prelude.{◌≡◌, [], ◌++◌, IfOk, OnOk};
 ghost use Rattle.serde_json.specs.View.{view};
 ghost use Rattle.serde_json.specs.Written.{compact_text};
 ghost use Rattle.mol_top.specs.renames.ValueText.{texts_data, type_words, value_data};
@@ -47,8 +47,22 @@ fn type_json(alloc: Global, type_: &IType) -> Result<Json, OutOfMemory>
             Ok(json!(in alloc; ["imported", package.as_str(), name.get().as_str()])?)
         }
         IType::Written(name) => Ok(json!(in alloc; ["written", name.as_str()])?),
-        _ => Ok(Json::Array(Vec::new(alloc))),
+        IType::Boolean => Ok(no_words(alloc)),
+        IType::Byte => Ok(no_words(alloc)),
+        IType::Short => Ok(no_words(alloc)),
+        IType::Char => Ok(no_words(alloc)),
+        IType::Int => Ok(no_words(alloc)),
+        IType::Long => Ok(no_words(alloc)),
+        IType::Void => Ok(no_words(alloc)),
+        IType::Array(_) => Ok(no_words(alloc)),
     }
+}
+
+/// The array of no words: what is no class stands in no slot of a class.
+fn no_words(alloc: Global) -> Json
+    ensures { view result ≡ texts_data [] }
+{
+    Json::Array(Vec::new(alloc))
 }
 
 /// The object of the comments of a class.
