@@ -33,6 +33,14 @@ def overriding(number):
     return sources
 
 
+def overriding_in_chain(number):
+    """A method with so many declarations, each in a class that extends the one of the declaration before."""
+    sources = {"over/C0.java": b"package over;\nclass C0 {\n  int size(int a, int b) { return a + b; }\n}\n"}
+    for k in range(1, number):
+        sources[f"over/C{k}.java"] = f"package over;\nclass C{k} extends C{k - 1} {{\n  int size(int a, int b) {{ return super.size(b, {k}); }}\n}}\n".encode()
+    return sources
+
+
 def ended_by(number, line, first=""):
     """Classes that each extend the one before, with such members in the first, and in the last one as many such lines; beside them a class
     `Util`."""
@@ -66,7 +74,8 @@ def inherited_in_chain(number):
 
 
 SHAPES = (("chain of classes", chain, 4000), ("fields of a class", wide, 10000), ("uses of three names", used, 10000),
-          ("declarations of a method", overriding, 2000), ("names in a chain of classes", named_in_chain, 4000),
+          ("declarations of a method", overriding, 2000), ("declarations of a method in a chain of classes", overriding_in_chain, 4000),
+          ("names in a chain of classes", named_in_chain, 4000),
           ("static calls in a chain of classes", static_in_chain, 4000),
           ("calls of `Object` in a chain of classes", outside_in_chain, 4000),
           ("inherited calls in a chain of classes", inherited_in_chain, 4000))
