@@ -21,7 +21,7 @@ use Rattle.mol_body_names.specs.FilePlaces.{writer_of}
 use Rattle.mol_hierarchy.proofs.Following.{itself}
 use Rattle.mol_hierarchy.proofs.OnWays.{on_way-decides}
 use Rattle.mol_hierarchy.specs.Reaching.{Reaches}
-use Rattle.mol_variables.proofs.Reached.{reached}
+use Rattle.mol_variables.proofs.Reached.{ancestor-is}
 use Rattle.mol_spell.proofs.ProgramsViewed.{programs_viewed}
 use Rattle.mol_spell.proofs.Stands.{from_some}
 use Rattle.mol_spell.specs.ProgramViews.{declaration_of, field_of, living_declaration, living_field, method_at, method_in, program_view}
@@ -72,12 +72,16 @@ module _ (program : Program) (rules : IsProgram program) where
   abbrev IsOwner : Id → Id → Type 0
   IsOwner class owner = (owner ≡ class) ⊎ IsAncestor view class owner
 
-  owner-reached : (class owner : Id) → IsOwner class owner → Reaches program class owner
-  owner-reached class owner (inl same) = subst (Reaches program class) (sym same) (itself program class)
-  owner-reached class owner (inr is) = reached program rules class owner ((ancestors_known Id Id).led_to view class owner is)
-
   owner-on-way : (class owner : Id) → IsOwner class owner → is_on_way program class owner ≡ true
-  owner-on-way class owner is = (on_way-decides program rules class owner).1 (owner-reached class owner is)
+  owner-on-way class owner is = by (same_id class owner) refl is where
+    own : class ≡ owner → is_on_way program class owner ≡ true
+    own same = (on_way-decides program rules class owner).1 (subst (Reaches program class) same (itself program class))
+
+    by : (b : Bool) → same_id class owner ≡ b → IsOwner class owner → is_on_way program class owner ≡ true
+    by true same is = own (id_tied class owner same)
+    by false apart (inl same) = own (sym same)
+    by false apart (inr above) =
+        ancestor-is program rules class owner apart ∙ ((ancestors_known Id Id).tested view class owner ordered.classes).1 above
 
   -- ---- fields
 

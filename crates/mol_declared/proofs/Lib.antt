@@ -4,4 +4,6 @@ pub mod DeclaringFound
 pub mod EntriesMade
 pub mod MembersAdded
 pub mod MembersFound
-pub mod OwnersAdded
+pub mod OwnersNamed
+pub mod OwnersNear
+pub mod OwnersPlaced

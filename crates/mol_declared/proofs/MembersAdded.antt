@@ -16,7 +16,7 @@ use Rattle.mol_table.specs.Program.{Program, living_at, owner_at}
 use Rattle.mol_values.specs.declared.known.Known.TheVariants as knowns
 use Rattle.mol_declared.specs.Collecting.{Adds, AddsKnown, AreCollected, Collects}
 use Rattle.mol_declared.specs.MemberEntries.{declaring_entry, field_entry, listed_constructor, listed_method, listed_owner}
-use Rattle.mol_declared.specs.Owners.{field_owner, method_owner, owners_at}
+use Rattle.mol_declared.specs.Owners.{field_row, method_row, row_of}
 use Rattle.mol_declared.specs.declared.collected.Collected.{Collected}
 
 -- ---- what one identity adds
@@ -28,8 +28,8 @@ adds-none collected = record {
   constructors = sym (append-nil collected.constructors.items);
   constructed = sym (append-nil collected.constructed.items);
   declared = sym (append-nil collected.declared.items);
-  field_owners = λ name. sym (append-nil (owners_at collected.field_owners.entries name));
-  method_owners = λ name. sym (append-nil (owners_at collected.method_owners.entries name));
+  field_owners = sym (append-nil (map row_of collected.field_owners.items));
+  method_owners = sym (append-nil (map row_of collected.method_owners.items));
 }
 
 -- an entry is added that is this one
@@ -48,11 +48,10 @@ adds-both old between new living declaring first next = record {
   constructed = next.constructed
       ∙ ap (λ es. es ++ option_to_list (option_and_then listed_owner living)) (first.constructed ∙ append-nil old.constructed.items);
   declared = next.declared ∙ append-nil between.declared.items ∙ first.declared;
-  field_owners = λ name.
-      next.field_owners name ∙ append-nil (owners_at between.field_owners.entries name) ∙ first.field_owners name;
-  method_owners = λ name.
-      next.method_owners name ∙ ap (λ ids. ids ++ option_to_list (option_and_then (method_owner name) living))
-      (first.method_owners name ∙ append-nil (owners_at old.method_owners.entries name));
+  field_owners = next.field_owners ∙ append-nil (map row_of between.field_owners.items) ∙ first.field_owners;
+  method_owners = next.method_owners
+      ∙ ap (λ rows. rows ++ option_to_list (option_and_then method_row living))
+      (first.method_owners ∙ append-nil (map row_of old.method_owners.items));
 }
 
 -- ---- what lives, by the class in which it stands
@@ -125,10 +124,10 @@ module _ (program : Program) (ids : List Id) (i : ℕ) where
     constructed = listed-more ids i id within at living listed_owner old.constructed.items new.constructed.items
         was.constructed added.constructed;
     declared = added.declared ∙ (λ k. was.declared k ++ option_to_list (declaring id)) ∙ sym (made-more declaring ids i id within at);
-    field_owners = λ name. listed-more ids i id within at field (field_owner name) (owners_at old.field_owners.entries name)
-        (owners_at new.field_owners.entries name) (was.field_owners name) (added.field_owners name);
-    method_owners = λ name. listed-more ids i id within at living (method_owner name) (owners_at old.method_owners.entries name)
-        (owners_at new.method_owners.entries name) (was.method_owners name) (added.method_owners name);
+    field_owners = mapped-more ids i id within at field field_row (map row_of old.field_owners.items) (map row_of new.field_owners.items)
+        was.field_owners added.field_owners;
+    method_owners = listed-more ids i id within at living method_row (map row_of old.method_owners.items)
+        (map row_of new.method_owners.items) was.method_owners added.method_owners;
   }
 
   pub collects-all : (collected : Collected) → IsAscending ids → AreKnown program ids → length ids ≤ i → CollectsTo collected
@@ -148,6 +147,6 @@ module _ (program : Program) (ids : List Id) (i : ℕ) where
         constructors = was.constructors ∙ ap (filter_map listed_constructor) living_in_view;
         constructed = was.constructed ∙ ap (filter_map listed_owner) living_in_view;
         declared = was.declared ∙ declaring_all;
-        field_owners = λ name. was.field_owners name ∙ ap (filter_map (field_owner name)) in_view;
-        method_owners = λ name. was.method_owners name ∙ ap (filter_map (method_owner name)) living_in_view;
+        field_owners = was.field_owners ∙ ap (map field_row) in_view;
+        method_owners = was.method_owners ∙ ap (filter_map method_row) living_in_view;
       }

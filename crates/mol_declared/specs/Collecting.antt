@@ -2,7 +2,6 @@
 use Rattle.std.specs.Prelude.{◌≡◌, List, ◌++◌, map, filter_map, Option, option_map}
 use Rattle.std.specs.FinMap.{entries}
 use Rattle.std.specs.Option.{option_and_then, option_to_list}
-use Rattle.jav_view.specs.DottedNames.{Name}
 use Rattle.jav_view.specs.Views.{ViewField, ViewDeclaration}
 use Rattle.mol_base.specs.declared.ident.Id.{Id}
 use Rattle.mol_index.specs.declared.entry.Entry.{Entry}
@@ -10,7 +9,7 @@ use Rattle.mol_spell.specs.ProgramViews.{living_field, living_declaration, progr
 use Rattle.mol_table.specs.Program.{Program}
 use Rattle.mol_values.specs.declared.known.Known.{Known}
 use Rattle.mol_declared.specs.MemberEntries.{field_entry, listed_method, listed_constructor, listed_owner, declaring_entry}
-use Rattle.mol_declared.specs.Owners.{AreOwners, field_owner, field_owners, method_owner, method_owners, owners_at}
+use Rattle.mol_declared.specs.Owners.{field_row, method_row, row_of}
 use Rattle.mol_declared.specs.declared.collected.Collected.{Collected}
 
 -- What is collected of these fields and declarations that live, and of these entries of declarations by their methods.
@@ -21,8 +20,8 @@ pub record Collects (collected : Collected) (living_fields : List (ViewField Id 
   pub constructors : collected.constructors.items ≡ filter_map listed_constructor living
   pub constructed : collected.constructed.items ≡ filter_map listed_owner living
   pub declared : collected.declared.items ≡ declaring
-  pub field_owners : AreOwners (field_owners living_fields) collected.field_owners.entries
-  pub method_owners : AreOwners (method_owners living) collected.method_owners.entries
+  pub field_owners : map row_of collected.field_owners.items ≡ map field_row living_fields
+  pub method_owners : map row_of collected.method_owners.items ≡ filter_map method_row living
 
 -- All members of a program are collected.
 abbrev pub AreCollected : Collected → Program → Type 0
@@ -37,10 +36,9 @@ pub record Adds (old new : Collected) (field : Option (ViewField Id Id)) (living
   pub constructors : new.constructors.items ≡ old.constructors.items ++ option_to_list (option_and_then listed_constructor living)
   pub constructed : new.constructed.items ≡ old.constructed.items ++ option_to_list (option_and_then listed_owner living)
   pub declared : new.declared.items ≡ old.declared.items ++ option_to_list declaring
-  pub field_owners : (name : Name) → owners_at new.field_owners.entries name
-      ≡ owners_at old.field_owners.entries name ++ option_to_list (option_and_then (field_owner name) field)
-  pub method_owners : (name : Name) → owners_at new.method_owners.entries name
-      ≡ owners_at old.method_owners.entries name ++ option_to_list (option_and_then (method_owner name) living)
+  pub field_owners : map row_of new.field_owners.items ≡ map row_of old.field_owners.items ++ option_to_list (option_map field_row field)
+  pub method_owners : map row_of new.method_owners.items
+      ≡ map row_of old.method_owners.items ++ option_to_list (option_and_then method_row living)
 
 -- What an identity is is collected, by what it is known as.
 abbrev pub AddsKnown : Collected → Collected → Program → Id → Option Known → Type 0

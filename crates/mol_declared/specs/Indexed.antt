@@ -8,23 +8,27 @@ use Rattle.jav_view.specs.LookUps.{is_method}
 use Rattle.jav_view.specs.Members.{Constructor, declared_constructor, default_constructor}
 use Rattle.jav_view.specs.Views.{ViewField, ViewDeclaration, View}
 use Rattle.mol_base.specs.declared.ident.Id.{Id}
+use Rattle.mol_hierarchy.specs.declared.position.Position.{Position}
 use Rattle.mol_index.specs.Seeking.{is_sought, FindsSame}
 use Rattle.mol_index.specs.declared.entry.Entry.{Entry}
 use Rattle.mol_spell.specs.ProgramViews.{program_view}
 use Rattle.mol_table.specs.Program.{Program}
 use Rattle.mol_declared.specs.MemberEntries.{field_entry, listed_method, listed_constructor, listed_owner, declaring_entry}
-use Rattle.mol_declared.specs.Owners.{AreOwners, field_owners, method_owners}
+use Rattle.mol_declared.specs.Owners.{AreOwners, field_row, method_row}
 use Rattle.mol_declared.specs.declared.members.Members.{Members}
 
--- Each index finds the first of its members, and at names stand the classes of fields and methods.
+-- Each index finds the first of its members.
 pub record AreIndexed (members : Members) (program : Program) : Type 0 where
   pub fields : FindsSame members.fields (map field_entry (program_view program).fields)
   pub methods : FindsSame members.methods (filter_map listed_method (program_view program).declarations)
   pub constructors : FindsSame members.constructors (filter_map listed_constructor (program_view program).declarations)
   pub constructed : FindsSame members.constructed (filter_map listed_owner (program_view program).declarations)
   pub declared : FindsSame members.declared (filter_map declaring_entry (entries program.known))
-  pub field_owners : AreOwners (field_owners (program_view program).fields) members.field_owners.entries
-  pub method_owners : AreOwners (method_owners (program_view program).declarations) members.method_owners.entries
+
+-- The classes of fields and methods stand by the names of these and by their positions.
+pub record AreOwned (members : Members) (positions : List (Id × Position)) (program : Program) : Type 0 where
+  pub field_owners : AreOwners positions (map field_row (program_view program).fields) members.field_owners.placed.items
+  pub method_owners : AreOwners positions (filter_map method_row (program_view program).declarations) members.method_owners.placed.items
 
 -- the first field of this name that a class declares itself
 abbrev pub declared_field : View Id Id → Id → Name → Option (ViewField Id Id)

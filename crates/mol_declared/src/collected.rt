@@ -8,15 +8,15 @@ ghost use Rattle.mol_declared.specs.MemberEntries.{declaring_entry};
 
 use crate::entries::{named_entry, nameless_entry};
 use crate::living::{LivingDeclaration, living_owner};
+use crate::owner::Owner;
 use crate::owners::add_owner;
-use indexmap::IndexMap;
-use mol_base::{Id, List, OutOfMemory};
+use mol_base::{Id, OutOfMemory};
 use mol_cells::{is_constructor, name_of, params_of};
 use mol_index::Entry;
 use mol_table::{Known, Table};
 use std::alloc::Global;
 
-/// Entries for the indexes of members, and the classes of fields and of methods, at the names of these.
+/// Entries for the indexes of members, and the classes that declare them.
 #[derive(Drop)]
 pub(crate) struct Collected<'a> {
     /// Fields by class and name.
@@ -29,8 +29,10 @@ pub(crate) struct Collected<'a> {
     pub constructed: Vec<Entry>,
     /// Declarations by their method, whether or not they live.
     pub declared: Vec<Entry>,
-    pub field_owners: IndexMap<&'a str, List<Id>>,
-    pub method_owners: IndexMap<&'a str, List<Id>>,
+    /// The classes of fields.
+    pub field_owners: Vec<Owner<'a>>,
+    /// The classes of methods.
+    pub method_owners: Vec<Owner<'a>>,
 }
 
 impl<'a> Collected<'a> {
@@ -52,8 +54,8 @@ impl<'a> Collected<'a> {
         ensures constructors { result.constructors.items ≡ [] }
         ensures constructed { result.constructed.items ≡ [] }
         ensures declared { result.declared.items ≡ [] }
-        ensures field_owners { result.field_owners.entries ≡ [] }
-        ensures method_owners { result.method_owners.entries ≡ [] }
+        ensures field_owners { result.field_owners.items ≡ [] }
+        ensures method_owners { result.method_owners.items ≡ [] }
     {
         Collected {
             fields: Vec::new(alloc),
@@ -61,8 +63,8 @@ impl<'a> Collected<'a> {
             constructors: Vec::new(alloc),
             constructed: Vec::new(alloc),
             declared: Vec::new(alloc),
-            field_owners: IndexMap::new(alloc),
-            method_owners: IndexMap::new(alloc),
+            field_owners: Vec::new(alloc),
+            method_owners: Vec::new(alloc),
         }
     }
 
@@ -118,7 +120,7 @@ impl<'a> Collected<'a> {
         let name = name_of(table, id);
         let entry = named_entry(alloc, owner, 0, name, id)?;
         self.fields.push(entry)?;
-        add_owner(alloc, &mut self.field_owners, name, *owner)
+        add_owner(&mut self.field_owners, 0, name, owner)
     }
 
     /// Adds a declaration by its method, and, if it lives, by its class too.
@@ -174,7 +176,7 @@ impl<'a> Collected<'a> {
             let name = name_of(table, &declared.method);
             let entry = named_entry(alloc, &declared.owner, arity, name, id)?;
             self.methods.push(entry)?;
-            add_owner(alloc, &mut self.method_owners, name, declared.owner)
+            add_owner(&mut self.method_owners, arity, name, &declared.owner)
         }
     }
 }

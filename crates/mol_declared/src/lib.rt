@@ -9,8 +9,11 @@ mod living;
 mod member_index;
 mod members;
 mod named;
+mod nearest;
 mod own;
+mod owner;
 mod owners;
 
 pub use member_index::MemberIndex;
 pub use mol_classes::superclass_of;
+pub use nearest::Nearest;

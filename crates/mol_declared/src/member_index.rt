@@ -1,12 +1,11 @@
 //! A table as the rules on names look at it.
 ghost use Rattle.std.specs.Prelude.{◌≡◌, IfOk};
-ghost use Rattle.mol_hierarchy.specs.Reaching.{IsTopOf};
 ghost use Rattle.mol_table.specs.Ancestors.{is_on_way};
 
 use crate::members::Members;
 use mol_base::{Id, OutOfMemory};
 use mol_classes::ClassIndex;
-use mol_hierarchy::Hierarchy;
+use mol_hierarchy::{Hierarchy, Paths};
 use mol_table::Table;
 use std::alloc::Global;
 use std::marker::Model;
@@ -17,12 +16,14 @@ pub struct MemberIndex<'a> {
     pub(crate) classes: ClassIndex<'a>,
     pub(crate) members: Members<'a>,
     pub(crate) hierarchy: Hierarchy<'a>,
+    pub(crate) paths: Paths,
 }
 
 impl<'a> Model for MemberIndex<'a> {
     ghost use Rattle.std.specs.Prelude.{◌≡◌};
     ghost use Rattle.mol_base.specs.contracts.ident.Id as id;
-    ghost use Rattle.mol_declared.specs.Indexed.{AreIndexed};
+    ghost use Rattle.mol_declared.specs.Indexed.{AreIndexed, AreOwned};
+    ghost use Rattle.mol_hierarchy.specs.Paths.{ArePaths};
     ghost use Rattle.mol_table.specs.Maps.{program_code};
     ghost use Rattle.mol_table.specs.Program.{Program};
     ghost use Rattle.mol_values.specs.contracts.cell.Cell as cell;
@@ -35,7 +36,8 @@ impl<'a> Model for MemberIndex<'a> {
 
     ghost view = { λ index. index.classes };
 
-    ghost invariant = { λ index. AreIndexed index.members index.classes × (index.hierarchy ≡ index.classes) };
+    ghost invariant = { λ index. AreIndexed index.members index.classes × (index.hierarchy ≡ index.classes)
+        × AreOwned index.members index.paths.positions.entries index.classes × ArePaths index.classes index.paths.positions.entries };
 }
 
 impl<'a> MemberIndex<'a> {
@@ -45,12 +47,14 @@ impl<'a> MemberIndex<'a> {
         ensures { IfOk result (λ index. index ≡ table.now) }
     {
         let classes = ClassIndex::new(alloc, table)?;
-        let members = Members::of(alloc, table)?;
         let hierarchy = Hierarchy::new(alloc, table)?;
+        let paths = hierarchy.paths(alloc)?;
+        let members = Members::of(alloc, table, &paths)?;
         Ok(MemberIndex {
             classes,
             members,
             hierarchy,
+            paths,
         })
     }
 
@@ -67,14 +71,6 @@ impl<'a> MemberIndex<'a> {
         ensures { result ≡ is_on_way self.now class.now above.now }
     {
         self.hierarchy.is_on_way(class, above)
-    }
-
-    /// Where the way up from a class ends: the last class that is met going up while each lives, or a class of the circle in which
-    /// superclasses run. It takes no memory, and the time is logarithmic in the number of classes.
-    pub fn top(&self, class: &Id) -> Id
-        ensures { IsTopOf self.now class.now result }
-    {
-        self.hierarchy.top(class)
     }
 
     /// The classes of the table. It takes no memory.

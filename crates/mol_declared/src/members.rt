@@ -1,17 +1,18 @@
 //! Members by their names.
 ghost use Rattle.std.specs.Prelude.{IfOk};
-ghost use Rattle.mol_declared.specs.Indexed.{AreIndexed};
+ghost use Rattle.mol_declared.specs.Indexed.{AreIndexed, AreOwned};
 
 use crate::collected::Collected;
-use indexmap::IndexMap;
-use mol_base::{Id, List, OutOfMemory};
+use crate::owners::Owners;
+use mol_base::OutOfMemory;
+use mol_hierarchy::Paths;
 use mol_index::Index;
 use mol_table::Table;
 use std::alloc::Global;
 
 /// The members of a table that live: fields by class and name, methods by class, name and number of parameters, constructors by class
-/// and number of parameters, and by class alone; and all declarations by their methods. Beside them the classes of fields and of methods,
-/// at the names of these.
+/// and number of parameters, and by class alone; and all declarations by their methods. Beside them the classes that declare fields and
+/// methods, by the names of these.
 #[derive(Drop)]
 pub(crate) struct Members<'a> {
     pub fields: Index,
@@ -19,14 +20,15 @@ pub(crate) struct Members<'a> {
     pub constructors: Index,
     pub constructed: Index,
     pub declared: Index,
-    pub field_owners: IndexMap<&'a str, List<Id>>,
-    pub method_owners: IndexMap<&'a str, List<Id>>,
+    pub field_owners: Owners<'a>,
+    pub method_owners: Owners<'a>,
 }
 
 impl<'a> Members<'a> {
-    /// The members of a table.
-    pub fn of(alloc: Global, table: &'a Table) -> Result<Members<'a>, OutOfMemory>
-        ensures { IfOk result (λ members. AreIndexed members table.now) }
+    /// The members of a table, whose classes stand on these paths.
+    pub fn of(alloc: Global, table: &'a Table, paths: &Paths) -> Result<Members<'a>, OutOfMemory>
+        ensures indexed { IfOk result (λ members. AreIndexed members table.now) }
+        ensures owned { IfOk result (λ members. AreOwned members paths.now.positions.entries table.now) }
     {
         let Collected {
             fields,
@@ -43,8 +45,8 @@ impl<'a> Members<'a> {
             constructors: Index::new(constructors)?,
             constructed: Index::new(constructed)?,
             declared: Index::new(declared)?,
-            field_owners,
-            method_owners,
+            field_owners: Owners::new(alloc, paths, field_owners.as_slice())?,
+            method_owners: Owners::new(alloc, paths, method_owners.as_slice())?,
         })
     }
 }

@@ -1,35 +1,40 @@
 //! Which classes declare members of a name.
-ghost use Rattle.std.specs.Prelude.{◌≡◌};
+ghost use Rattle.std.specs.Prelude.{◌≡◌, None};
 ghost use Rattle.std.specs.List.{list_any};
 ghost use Rattle.std.specs.Str.{bytes_eq};
 ghost use Rattle.mol_spell.specs.ProgramViews.{program_view};
-ghost use Rattle.mol_declared.specs.Owners.{field_owners, method_owners};
+ghost use Rattle.mol_declared.specs.Indexed.{declared_field, declared_method};
+ghost use Rattle.mol_declared.specs.Owners.{IsNearest};
 
 use crate::member_index::MemberIndex;
-use crate::owners::owners_at;
+use crate::nearest::Nearest;
 use mol_base::Id;
 
 impl MemberIndex<'_> {
-    /// Whether a field that lives has this name, in whatever class. It takes no memory, and about the same time however many there are.
+    /// Whether a field that lives has this name, in whatever class. It takes no memory, and the time is logarithmic in the number of fields.
     pub fn is_field_name(&self, name: &str) -> bool
         ensures { result ≡ list_any (λ field. bytes_eq field.name name.now) (program_view self.now).fields }
     {
-        !self.field_owners(name).is_empty()
+        self.members.field_owners.is_named(0, name)
     }
 
-    /// The classes in which fields of this name stand that live, one for each field, in the order of the fields. It takes no memory, and
-    /// about the same time however many there are.
-    pub fn field_owners(&self, name: &str) -> &[Id]
-        ensures { result.now ≡ field_owners (program_view self.now).fields name.now }
+    /// Where to look next, going up from a class, for one that declares a field of this name: none of those before it does. From the
+    /// superclass of the class that is answered the search goes on; so to the end it takes no more calls than the number of classes has
+    /// binary digits, but where superclasses run in a circle. It takes no memory, and the time is logarithmic in the number of fields.
+    pub fn nearest_field_owner(&self, class: &Id, name: &str) -> Nearest
+        ensures { IsNearest self.now (λ above. declared_field (program_view self.now) above name.now ≡ None) class.now result }
     {
-        owners_at(&self.members.field_owners, name)
+        self.members
+            .field_owners
+            .nearest(&self.paths, class, 0, name)
     }
 
-    /// The classes in which declarations of methods of this name stand that live, whatever their parameters, one for each declaration, in
-    /// the order of the declarations. Constructors do not count. It takes no memory, and about the same time however many there are.
-    pub fn method_owners(&self, name: &str) -> &[Id]
-        ensures { result.now ≡ method_owners (program_view self.now).declarations name.now }
+    /// The same for a declaration of a method of this name and number of parameters. The time is logarithmic in the number of declarations.
+    pub fn nearest_method_owner(&self, class: &Id, name: &str, arity: u32) -> Nearest
+        ensures { IsNearest self.now (λ above. declared_method (program_view self.now) above name.now arity ≡ None) class.now result }
     {
-        owners_at(&self.members.method_owners, name)
+        self.members
+            .method_owners
+            .nearest(&self.paths, class, arity as usize, name)
     }
 }

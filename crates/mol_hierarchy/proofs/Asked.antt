@@ -23,13 +23,12 @@ use Rattle.mol_values.specs.declared.cell.Slot.TheVariants as slots
 use Rattle.mol_values.specs.declared.known.Known.{Known}
 use Rattle.mol_values.specs.declared.known.Known.TheVariants as knowns
 use Rattle.mol_values.specs.declared.value.Value.{Value}
-use Rattle.mol_hierarchy.specs.Forest.{IsUp, here, IsTopClass}
-use Rattle.mol_hierarchy.specs.Placed.{number_in, HasAbove, ArePlaced, IsHierarchy, Keeps}
-use Rattle.mol_hierarchy.specs.Reaching.{Reaches, IsTopOf}
+use Rattle.mol_hierarchy.specs.Forest.{IsUp}
+use Rattle.mol_hierarchy.specs.Placed.{number_in, ArePlaced, IsHierarchy, Keeps}
+use Rattle.mol_hierarchy.specs.Reaching.{Reaches}
 use Rattle.mol_hierarchy.specs.declared.place.Place.{Place}
 use Rattle.mol_hierarchy.proofs.Following.{itself, first-step}
 use Rattle.mol_hierarchy.proofs.OnWays.{on_way-decides}
-use Rattle.mol_hierarchy.proofs.WaysUp.{top-alone}
 
 -- nothing has a place at first
 pub none-placed : (program : Program) (numbers : List (Id × ℕ)) (places : List Place) → numbers ≡ [] → places ≡ []
@@ -38,7 +37,6 @@ none-placed program numbers places no_numbers no_places = record {
   forest = λ number place there. absurd (none-some place (sym (ap (λ ps. slice_get ps number) no_places) ∙ there));
   within = λ class number is. absurd (none-some number (sym (none class) ∙ is));
   leads = λ class number is above. absurd (none-some number (sym (none class) ∙ is));
-  named = λ number place there. absurd (none-some place (sym (ap (λ ps. slice_get ps number) no_places) ∙ there));
 } where
   none : (class : Id) → number_in numbers class ≡ None
   none class = ap (λ ns. number_in ns class) no_numbers ∙ get-empty id_cmp class
@@ -129,25 +127,3 @@ module _ (program : Program) (numbers : List (Id × ℕ)) (places : List Place) 
       → false ≡ is_on_way program class above
   unplaced-asked from own none = sym (Decides-fails on (λ reaches.
       let has = (is.placed.leads class from own above).0 reaches in none-some has.own (sym none ∙ has.is)))
-
-module _ (program : Program) (numbers : List (Id × ℕ)) (places : List Place) (is : IsHierarchy program numbers places) (class : Id) where
-  pub alone-top : number_in numbers class ≡ None → IsTopOf program class class
-  alone-top none = record { reached = itself program class; back = λ above reaches. by above (first-step program class above reaches) } where
-    by : (above : Id) → (class ≡ above) ⊎ ((next : Id) × (upward program (Some class) ≡ Some next) × Reaches program next above)
-        → Reaches program above class
-    by above (inl same) = subst (λ c. Reaches program c class) same (itself program class)
-    by above (inr step) = absurd (none-some step.0 (sym (is.whole class none) ∙ step.1))
-
-  pub placed-top : (number : ℕ) (top : Id) → number_in numbers class ≡ Some number → IsTopClass places number top
-      → IsTopOf program class top
-  placed-top number top own found = record {
-    reached = (is.placed.leads class number own top).1 (record { own = found.top; is = numbered; leads = found.leads });
-    back = λ above reaches. back above ((is.placed.leads top found.top numbered above).0 reaches);
-  } where
-    numbered : number_in numbers top ≡ Some found.top
-    numbered = ap (number_in numbers) (sym found.named) ∙ is.placed.named found.top found.place found.there
-
-    back : (above : Id) → HasAbove numbers places found.top above → Reaches program above top
-    back above has =
-        let same = top-alone places found.top has.own found.place found.there found.ends has.leads in
-        (is.placed.leads above found.top (has.is ∙ ap Some same) top).1 (record { own = found.top; is = numbered; leads = here })

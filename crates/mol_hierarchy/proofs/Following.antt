@@ -1,21 +1,20 @@
 -- Following superclasses.
-use Rattle.std.proofs.Common.{◌≡◌, ◌⊎◌, inl, inr, ℕ, zero, suc, ◌+◌, ◌-◌, ◌<◌, ◌≤◌, Option, Some, None, refl, sym, ◌∙◌, ap, subst, arith}
-use Rattle.std.proofs.lemmas.Bool.{cases_lt}
+use Rattle.std.proofs.Common.{◌≡◌, ◌⊎◌, inl, inr, ℕ, zero, suc, ◌+◌, Option, Some, None, refl, sym, ◌∙◌, ap, subst, arith}
 use Rattle.mol_base.specs.declared.ident.Id.{Id}
 use Rattle.mol_table.specs.Heights.{upward, climb}
 use Rattle.mol_table.specs.Program.{Program}
 use Rattle.mol_table.proofs.Counts.{none-some, some-same}
-use Rattle.mol_hierarchy.specs.Reaching.{Reaches, IsTopOf}
+use Rattle.mol_hierarchy.specs.Reaching.{Reaches}
 
 module _ (program : Program) where
-  climb-none : (steps : ℕ) → climb program steps None ≡ None
+  pub climb-none : (steps : ℕ) → climb program steps None ≡ None
   climb-none zero = refl
   climb-none (suc steps) = climb-none steps
 
-  nowhere : (steps : ℕ) (start : Option Id) (above : Id) → start ≡ None → climb program steps start ≡ Some above → ⊥
+  pub nowhere : (steps : ℕ) (start : Option Id) (above : Id) → start ≡ None → climb program steps start ≡ Some above → ⊥
   nowhere steps start above none is = none-some above (sym (climb-none steps) ∙ sym (ap (climb program steps) none) ∙ is)
 
-  climb-on : (first next : ℕ) (at : Option Id) → climb program (first + next) at ≡ climb program next (climb program first at)
+  pub climb-on : (first next : ℕ) (at : Option Id) → climb program (first + next) at ≡ climb program next (climb program first at)
   climb-on zero next at = let same : 0 + next ≡ next = omega arith in ap (λ n. climb program n at) same
   climb-on (suc first) next at =
       let same : suc first + next ≡ suc (first + next) = omega arith in
@@ -53,37 +52,3 @@ module _ (program : Program) where
             → ((next : Id) → climb program steps (Some next) ≡ Some above → Within next → Within above) → Within above
         by None up more = absurd (nowhere steps (upward program (Some class)) above up is)
         by (Some next) up more = more next (sym (ap (climb program steps) up) ∙ is) (closed class next within up)
-
-  -- ---- two classes that one leads to
-
-  -- from the one that is reached in fewer steps the other is reached
-  on-from : (class low high : Id) (to-low : Reaches program class low) (to-high : Reaches program class high)
-      → to-low.steps ≤ to-high.steps → Reaches program low high
-  on-from class low high to-low to-high less =
-      let rest = to-high.steps - to-low.steps in
-      let whole : to-low.steps + rest ≡ to-high.steps = omega (arith, less) in
-      record {
-        steps = rest;
-        leads = ap (climb program rest) (sym to-low.leads) ∙ sym (climb-on to-low.steps rest (Some class))
-            ∙ ap (λ n. climb program n (Some class)) whole ∙ to-high.leads;
-      }
-
-  either-way : (class first second : Id) → Reaches program class first → Reaches program class second
-      → Reaches program first second ⊎ Reaches program second first
-  either-way class first second to-first to-second = by (cases_lt to-first.steps to-second.steps) where
-    by : (to-first.steps < to-second.steps) ⊎ (to-second.steps ≤ to-first.steps)
-        → Reaches program first second ⊎ Reaches program second first
-    by (inl less) = inl (on-from class first second to-first to-second (omega (arith, less)))
-    by (inr most) = inr (on-from class second first to-second to-first most)
-
-  -- a class that extends no class that lives is where each way up to it ends
-  pub one-end : (class top last : Id) → IsTopOf program class top → Reaches program class last → upward program (Some last) ≡ None
-      → last ≡ top
-  one-end class top last is to-last none = by (either-way class top last is.reached to-last) where
-    ended : (last ≡ top) ⊎ ((next : Id) × (upward program (Some last) ≡ Some next) × Reaches program next top) → last ≡ top
-    ended (inl same) = same
-    ended (inr step) = absurd (none-some step.0 (sym none ∙ step.1))
-
-    by : Reaches program top last ⊎ Reaches program last top → last ≡ top
-    by (inl on) = ended (first-step last top (is.back last on))
-    by (inr on) = ended (first-step last top on)

@@ -7,3 +7,5 @@ pub mod PlacesAdded
 pub mod LinesTopped
 pub mod Asked
 pub mod LinesNoted
+pub mod PathsClimbed
+pub mod PathsDrawn

@@ -142,14 +142,14 @@ module _ (program : Program) (numbers : List (Id × ℕ)) (class at : Id) (keys 
 
 module _ (program : Program) (numbers : List (Id × ℕ)) (places : List Place) (class at : Id) (more : List Id) (first : ℕ)
     (ended : IsEnded program numbers class at more first) (new_numbers : List (Id × ℕ)) (new_places : List Place)
-    (adds : Adds numbers places (drop first more) (top_place at (length places)) new_numbers new_places) where
+    (adds : Adds numbers places (drop first more) (top_place (length places)) new_numbers new_places) where
   new : AreNew numbers (drop first more)
   new x stands = ended.unplaced x (subst (λ ids. Contains ids x) (take-append-drop first more)
       (Contains-append_right (take first more) (drop first more) x stands))
 
   pub ended-placed : ArePlaced program numbers places → ArePlaced program new_numbers new_places
   ended-placed placed = top-added program numbers places (drop first more)
-      (top_place at (length places)) new_numbers new_places adds new placed
+      (top_place (length places)) new_numbers new_places adds new placed
       at ended.top refl
 
   pub ended-line : IsLine program new_numbers class (take first more) (length places)
@@ -157,11 +157,11 @@ module _ (program : Program) (numbers : List (Id × ℕ)) (places : List Place) 
     at = at;
     leads = ended.leads;
     is = new-number program numbers places (drop first more)
-        (top_place at (length places)) new_numbers new_places adds new at ended.top.stands;
+        (top_place (length places)) new_numbers new_places adds new at ended.top.stands;
   }
 
   pub ended-kept : Keeps numbers new_numbers
-  ended-kept = kept program numbers places (drop first more) (top_place at (length places)) new_numbers new_places adds new
+  ended-kept = kept program numbers places (drop first more) (top_place (length places)) new_numbers new_places adds new
 
   pub ended-unplaced : IsDistinct id_eq more → AreNew new_numbers (take first more)
   ended-unplaced distinct x stands =

@@ -5,7 +5,7 @@ use Rattle.std.specs.Cmp.{eq_by_cmp_equiv}
 use Rattle.std.specs.List.{list_any}
 use Rattle.std.proofs.lemmas.Bool.{cases_lt}
 use Rattle.std.proofs.lemmas.Map.Views.{Contains-from_any, list_any-from_Contains}
-use Rattle.jav_view.proofs.Lists.{stands_first, stands_where, stands_nowhere}
+use Rattle.jav_view.proofs.Lists.{stands_where, stands_nowhere}
 use Rattle.mol_base.specs.Order.{id_cmp-total}
 use Rattle.mol_base.specs.declared.ident.Id.{Id}
 use Rattle.mol_table.proofs.Counts.{none-some, some-same}
@@ -88,13 +88,6 @@ module _ (program : Program) (numbers : List (Id × ℕ)) (places : List Place) 
       by (inl old) = place-more places (place ∷ []) number p (placed.forest number p old)
       by (inr same) = subst (λ n. IsPlace more n p) same.0 (subst (IsPlace more last) same.1 own)
 
-    named-more : Contains classes place.class → (number : ℕ) (p : Place) → slice_get more number ≡ Some p
-        → number_in new_numbers p.class ≡ Some number
-    named-more among number p there = by (old-or-new number p there) where
-      by : (slice_get places number ≡ Some p) ⊎ ((last ≡ number) × (place ≡ p)) → number_in new_numbers p.class ≡ Some number
-      by (inl old) = old-number p.class number (placed.named number p old)
-      by (inr same) = ap (λ (q : Place). number_in new_numbers q.class) (sym same.1) ∙ new-number place.class among ∙ ap Some same.0
-
     of-new : AreLed → (class : Id) → Contains classes class → (above : Id)
         → Reaches program class above ↔ HasAbove new_numbers more last above
     of-new led class stands above = (
@@ -133,12 +126,11 @@ module _ (program : Program) (numbers : List (Id × ℕ)) (places : List Place) 
         by (inl among) = absurd (omega (arith, within, among.1, up-low places placed.forest leads))
         by (inr old) = record { own = has.own; is = old; leads = leads }
 
-    added : IsPlace more last place → Contains classes place.class → AreLed → ArePlaced program new_numbers more
-    added own among led = record {
+    added : IsPlace more last place → AreLed → ArePlaced program new_numbers more
+    added own led = record {
       forest = places-more own;
       within = λ class number is. within class number (which class number is);
       leads = λ class number is. leads class number (which class number is);
-      named = named-more among;
     } where
       within : (class : Id) (number : ℕ) → (Contains classes class × (number ≡ last)) ⊎ (number_in numbers class ≡ Some number)
           → number < length more
@@ -154,10 +146,10 @@ module _ (program : Program) (numbers : List (Id × ℕ)) (places : List Place) 
 
     -- ---- at the top
 
-    pub top-added : (class : Id) → AreTop program class classes → place ≡ top_place class last → ArePlaced program new_numbers new_places
+    pub top-added : (class : Id) → AreTop program class classes → place ≡ top_place last → ArePlaced program new_numbers new_places
     top-added class top is =
         subst (ArePlaced program new_numbers) (sym adds.grown)
-        (added own (subst (λ (p : Place). Contains classes p.class) (sym is) top.stands) led) where
+        (added own led) where
           own : IsPlace more last place
           own = subst (IsPlace more last) (sym is) (record { above = omega arith; jump = here; top = λ same. refl })
 
@@ -176,13 +168,9 @@ module _ (program : Program) (numbers : List (Id × ℕ)) (places : List Place) 
     -- ---- below another place
 
     pub below-added : (class at : Id) (above : ℕ) → classes ≡ class ∷ [] → upward program (Some class) ≡ Some at
-        → number_in numbers at ≡ Some above → IsBelow places class above place → ArePlaced program new_numbers new_places
+        → number_in numbers at ≡ Some above → IsBelow places above place → ArePlaced program new_numbers new_places
     below-added class at above alone up_is is below =
-        subst (ArePlaced program new_numbers) (sym adds.grown) (added own among led) where
-          among : Contains classes place.class
-          among = subst (λ ids. Contains ids place.class) (sym alone)
-              (subst (Contains (class ∷ [])) (sym below.named) (stands_first class []))
-
+        subst (ArePlaced program new_numbers) (sym adds.grown) (added own led) where
           within : above < last
           within = placed.within at above is
 

@@ -1,6 +1,7 @@
 -- Ways up in a forest.
-use Rattle.std.proofs.Common.{◌≡◌, ◌⊎◌, inl, inr, ℕ, zero, suc, ◌<◌, ◌≤◌, List, [], ◌∷◌, ◌++◌, length, Some, slice_get, refl, sym, ◌∙◌, ap, subst, arith}
+use Rattle.std.proofs.Common.{◌≡◌, ◌⊎◌, inl, inr, ℕ, zero, suc, ◌<◌, ◌≤◌, List, [], ◌∷◌, ◌++◌, length, get_or, Some, slice_get, refl, sym, ◌∙◌, ap, subst, arith}
 use Rattle.std.proofs.lemmas.Bool.{cases_lt}
+use Rattle.std.proofs.lemmas.Option.{slice_get-get_or}
 use Rattle.mol_table.proofs.Counts.{some-same}
 use Rattle.mol_hierarchy.specs.Forest.{IsUp, here, up, IsPlace, ArePlaces}
 use Rattle.mol_hierarchy.specs.declared.place.Place.{Place}
@@ -20,6 +21,14 @@ pub get-inside : {X : Type 0} (xs : List X) (i : ℕ) (x : X) → slice_get xs i
 get-inside [] i x is = absurd cc
 get-inside (y ∷ xs) zero x is = omega arith
 get-inside (y ∷ xs) (suc i) x is = omega (arith, get-inside xs i x is)
+
+-- the place above is among them
+pub above-within : (places : List Place) → ArePlaces places → (number : ℕ) (default : Place) → number < length places
+    → (get_or places number default).above < length places
+above-within places are number default within =
+    let place : Place = get_or places number default in
+    let is = are number place (slice_get-get_or places number default within) in
+    omega (arith, is.above, within)
 
 -- ---- ways
 

@@ -1,6 +1,5 @@
 -- Forests of places: each place names the next one up and one further up, and a place at the top names itself.
 use Rattle.std.specs.Prelude.{◌≡◌, ◌⊎◌, ℕ, ◌≤◌, List, Some, slice_get}
-use Rattle.mol_base.specs.declared.ident.Id.{Id}
 use Rattle.mol_hierarchy.specs.declared.place.Place.{Place}
 
 -- the second place is the first one, or above it
@@ -17,22 +16,12 @@ pub record IsPlace (places : List Place) (number : ℕ) (place : Place) : Type 0
 abbrev pub ArePlaces : List Place → Type 0
 ArePlaces places = (number : ℕ) (place : Place) → slice_get places number ≡ Some place → IsPlace places number place
 
--- a place at the top, with its class and its number
-abbrev pub top_place : Id → ℕ → Place
-top_place class number = record { class = class; above = number; jump = number; rank = 0 }
+-- a place at the top, which has this number
+abbrev pub top_place : ℕ → Place
+top_place number = record { above = number; jump = number; rank = 0 }
 
--- The way up from a place ends at one that has this class.
-pub record IsTopClass (places : List Place) (number : ℕ) (class : Id) : Type 0 where
-  pub top : ℕ
-  pub place : Place
-  pub there : slice_get places top ≡ Some place
-  pub leads : IsUp places number top
-  pub ends : place.above ≡ top
-  pub named : place.class ≡ class
-
--- a new place of a class, below one that is there
-pub record IsBelow (places : List Place) (class : Id) (above : ℕ) (place : Place) : Type 0 where
-  pub named : place.class ≡ class
+-- a new place below one that is there
+pub record IsBelow (places : List Place) (above : ℕ) (place : Place) : Type 0 where
   pub next : place.above ≡ above
   pub jump : IsUp places above place.jump
 

@@ -1,3 +1,4 @@
 pub mod Reaching
 pub mod Forest
 pub mod Placed
+pub mod Paths

@@ -1,5 +1,5 @@
 -- The places of classes.
-use Rattle.std.specs.Prelude.{◌≡◌, ◌↔◌, ℕ, ◌<◌, List, [], ◌∷◌, ◌++◌, length, slice_get, Contains, Option, Some, None, IsSome, cond}
+use Rattle.std.specs.Prelude.{◌≡◌, ◌↔◌, ℕ, ◌<◌, List, [], ◌∷◌, ◌++◌, length, Contains, Option, Some, None, IsSome, cond}
 use Rattle.std.specs.FinMap.{get, from_entries}
 use Rattle.std.specs.List.{list_any}
 use Rattle.mol_base.specs.Order.{id_cmp}
@@ -22,14 +22,12 @@ pub record HasAbove (numbers : List (Id × ℕ)) (places : List Place) (number :
   pub is : number_in numbers class ≡ Some own
   pub leads : IsUp places number own
 
--- Each class that has a place leads to those whose places are its own or above it, and to no others. Each place is that of the class that
--- it names.
+-- Each class that has a place leads to those whose places are its own or above it, and to no others.
 pub record ArePlaced (program : Program) (numbers : List (Id × ℕ)) (places : List Place) : Type 0 where
   pub forest : ArePlaces places
   pub within : (class : Id) (number : ℕ) → number_in numbers class ≡ Some number → number < length places
   pub leads : (class : Id) (number : ℕ) → number_in numbers class ≡ Some number → (above : Id)
       → Reaches program class above ↔ HasAbove numbers places number above
-  pub named : (number : ℕ) (place : Place) → slice_get places number ≡ Some place → number_in numbers place.class ≡ Some number
 
 -- Classes with their places, as a hierarchy keeps them: a class without a place extends no class that lives.
 pub record IsHierarchy (program : Program) (numbers : List (Id × ℕ)) (places : List Place) : Type 0 where
@@ -64,5 +62,5 @@ pub record Adds (numbers : List (Id × ℕ)) (places : List Place) (classes : Li
 pub record AddsBelow (numbers : List (Id × ℕ)) (places : List Place) (class : Id) (above : ℕ)
     (new_numbers : List (Id × ℕ)) (new_places : List Place) : Type 0 where
   pub place : Place
-  pub below : IsBelow places class above place
+  pub below : IsBelow places above place
   pub added : Adds numbers places (class ∷ []) place new_numbers new_places

@@ -9,11 +9,6 @@ pub record Reaches (program : Program) (class above : Id) : Type 0 where
   pub steps : ℕ
   pub leads : climb program steps (Some class) ≡ Some above
 
--- Where going up from the class ends: it is reached, and leads nowhere from where there is no way back to it.
-pub record IsTopOf (program : Program) (class top : Id) : Type 0 where
-  pub reached : Reaches program class top
-  pub back : (above : Id) → Reaches program top above → Reaches program above top
-
 -- These lead from each to each other one, and to nothing else; the class is one of them.
 pub record AreTop (program : Program) (class : Id) (classes : List Id) : Type 0 where
   pub stands : Contains classes class

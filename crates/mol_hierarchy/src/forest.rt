@@ -3,7 +3,7 @@ ghost use Rattle.std.specs.Prelude.{◌≡◌, ◌+◌, ◌<◌, ◌≤◌, ◌�
 ghost use Rattle.std.specs.FinMap as map;
 ghost use Rattle.indexmap.specs.IndexSet.{index_set_len};
 ghost use Rattle.mol_table.specs.Rules.{IsProgram};
-ghost use Rattle.mol_hierarchy.specs.Forest.{IsUp, ArePlaces, IsBelow, IsTopClass, LeadsOn, top_place};
+ghost use Rattle.mol_hierarchy.specs.Forest.{IsUp, ArePlaces, IsBelow, LeadsOn, top_place};
 ghost use Rattle.mol_hierarchy.specs.Placed.{number_in, ArePlaced, IsLine, AreNew, Adds, AddsBelow, Keeps};
 
 use crate::line::Line;
@@ -64,22 +64,6 @@ impl Forest {
         }
     }
 
-    /// The class of the place at the top of the way up from a place. The time is logarithmic in the number of places.
-    pub(crate) fn top(&self, from: usize) -> Id
-        requires places { ArePlaces self.now.places.items }
-        requires within { from < length self.now.places.items }
-        ensures { IsTopClass self.now.places.items from result }
-    {
-        let mut at = from;
-        'up: loop {
-            let place = &self.places[at];
-            if place.jump == at {
-                return place.class;
-            }
-            at = place.jump;
-        }
-    }
-
     /// Gives a class its place, and each class above it that has none yet.
     pub(crate) fn note(
         &mut self,
@@ -126,43 +110,36 @@ impl Forest {
             }
             let (first, is_new) = classes.insert_full(at)?;
             if !is_new {
-                return self.topped(classes, first, &at);
+                return self.topped(classes, first);
             }
             match living_parent(table, &at) {
                 Some(next) => at = next,
-                None => return self.topped(classes, first, &at),
+                None => return self.topped(classes, first),
             }
         }
     }
 
-    /// Gives the classes from the first of these on one place together, at the top, which is named by one of them; those before them are
-    /// left.
-    fn topped(
-        &mut self,
-        mut classes: IndexSet<Id>,
-        first: usize,
-        top: &Id,
-    ) -> Result<Line, OutOfMemory>
+    /// Gives the classes from the first of these on one place together, at the top; those before them are left.
+    fn topped(&mut self, mut classes: IndexSet<Id>, first: usize) -> Result<Line, OutOfMemory>
         requires { first ≤ index_set_len classes }
         ensures left { IfOk result (λ line. line.classes.keys ≡ take first classes.keys) }
         ensures above { IfOk result (λ line. line.above ≡ length self.old.places.items) }
         ensures added { OnOk result (Adds self.old.numbers.entries self.old.places.items (drop first classes.keys)
-            (top_place top.now (length self.old.places.items)) self.new.numbers.entries self.new.places.items) }
+            (top_place (length self.old.places.items)) self.new.numbers.entries self.new.places.items) }
     {
-        let above = self.add_top(&classes.as_slice()[first..], top)?;
+        let above = self.add_top(&classes.as_slice()[first..])?;
         classes.truncate(first);
         Ok(Line { classes, above })
     }
 
-    /// Gives these classes one place together, at the top, which is named by one of them.
-    fn add_top(&mut self, classes: &[Id], top: &Id) -> Result<usize, OutOfMemory>
+    /// Gives these classes one place together, at the top.
+    fn add_top(&mut self, classes: &[Id]) -> Result<usize, OutOfMemory>
         ensures number { IfOk result (λ number. number ≡ length self.old.places.items) }
         ensures added { OnOk result (Adds self.old.numbers.entries self.old.places.items classes.now
-            (top_place top.now (length self.old.places.items)) self.new.numbers.entries self.new.places.items) }
+            (top_place (length self.old.places.items)) self.new.numbers.entries self.new.places.items) }
     {
         let number = self.places.len();
         self.places.push(Place {
-            class: *top,
             above: number,
             jump: number,
             rank: 0,
@@ -182,31 +159,29 @@ impl Forest {
             self.new.numbers.entries self.new.places.items) }
     {
         let number = self.places.len();
-        let place = self.below(&class, above);
+        let place = self.below(above);
         self.places.push(place)?;
         let _ = self.numbers.insert(class, number)?;
         Ok(number)
     }
 
-    /// A place of a class below another one. A jump passes the next place's jump too where that is as long as the jump from there on, so that jumps
+    /// A place below another one. A jump passes the next place's jump too where that is as long as the jump from there on, so that jumps
     /// double, and few of them lead to any place above.
-    fn below(&self, class: &Id, above: usize) -> Place
+    fn below(&self, above: usize) -> Place
         requires places { ArePlaces self.now.places.items }
         requires within { above < length self.now.places.items }
-        ensures { IsBelow self.now.places.items class.now above result }
+        ensures { IsBelow self.now.places.items above result }
     {
         let next = self.places[above];
         let further = self.places[next.jump];
         if next.rank == further.rank {
             Place {
-                class: *class,
                 above,
                 jump: further.jump,
                 rank: next.rank.saturating_add(1),
             }
         } else {
             Place {
-                class: *class,
                 above,
                 jump: above,
                 rank: 1,

@@ -1,10 +1,12 @@
 //! Ancestors of classes.
-ghost use Rattle.std.specs.Prelude.{◌≡◌, IfOk};
-ghost use Rattle.mol_hierarchy.specs.Reaching.{IsTopOf};
+ghost use Rattle.std.specs.Prelude.{◌≡◌, IfOk, OnOk};
+ghost use Rattle.mol_hierarchy.specs.Paths.{AreDrawn, ArePaths};
 ghost use Rattle.mol_table.specs.Ancestors.{is_on_way};
 
 use crate::forest::Forest;
 use crate::parents::living_parent;
+use crate::paths::{Drawing, Paths};
+use crate::weights::heaviest;
 use mol_base::{Id, OutOfMemory};
 use mol_table::Table;
 use std::alloc::Global;
@@ -64,15 +66,32 @@ impl<'a> Hierarchy<'a> {
         }
     }
 
-    /// Where the way up from a class ends: the last class that is met going up while each lives, or a class of the circle in which
-    /// superclasses run. It takes no memory, and the time is logarithmic in the number of classes.
-    pub fn top(&self, class: &Id) -> Id
-        ensures { IsTopOf self.now class.now result }
+    /// Paths that lead down through the classes, so that going up from a class changes paths no more often than the number of classes has
+    /// binary digits, but where superclasses run in a circle. The time is that of some look-ups for each class. `Err` is want of memory.
+    pub fn paths(&self, alloc: Global) -> Result<Paths, OutOfMemory>
+        ensures { IfOk result (λ paths. ArePaths self.now paths.positions.entries) }
     {
+        let heaviest = heaviest(alloc, self.forest.places.as_slice())?;
+        let mut drawing = Drawing::new(alloc);
+        for class in self.forest.numbers.keys().as_slice() {
+            self.draw(&mut drawing, heaviest.as_slice(), class)?;
+        }
+        Ok(Paths {
+            positions: drawing.positions,
+        })
+    }
+
+    /// Adds a class to the path of its superclass, where that leads along it.
+    fn draw(&self, drawing: &mut Drawing, heaviest: &[bool], class: &Id) -> Result<(), OutOfMemory>
+        requires { AreDrawn self.now drawing.old.positions.entries drawing.old.lasts.entries }
+        ensures { OnOk result (AreDrawn self.now drawing.new.positions.entries drawing.new.lasts.entries) }
+    {
+        let Some(above) = living_parent(self.table, class) else {
+            return Ok(());
+        };
         match self.forest.numbers.get(class) {
-            Some(number) => self.forest.top(*number),
-            // It extends no class that lives.
-            None => *class,
+            Some(number) if heaviest.get(*number) == Some(&true) => drawing.add(class, &above),
+            _ => Ok(()),
         }
     }
 }

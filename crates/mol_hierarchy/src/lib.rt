@@ -5,6 +5,12 @@ mod forest;
 mod hierarchy;
 mod line;
 mod parents;
+mod paths;
 mod place;
+mod position;
+mod weights;
 
 pub use hierarchy::Hierarchy;
+pub use parents::living_parent;
+pub use paths::Paths;
+pub use position::Position;

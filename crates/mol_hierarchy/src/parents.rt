@@ -10,8 +10,9 @@ use mol_base::Id;
 use mol_cells::is_live;
 use mol_table::{Cell, IType, Known, Slot, Table, Value};
 
-/// The superclass of a class, where that is a class of the program and lives.
-pub(crate) fn living_parent(table: &Table, class: &Id) -> Option<Id>
+/// The superclass of a class, where that is a class of the program and lives (JLS 8.1.4). It takes no memory, and the time is that of some
+/// look-ups.
+pub fn living_parent(table: &Table, class: &Id) -> Option<Id>
     ensures { result ≡ upward table.now (Some class.now) }
 {
     match parent_of(table, class) {

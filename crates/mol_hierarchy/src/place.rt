@@ -1,11 +1,7 @@
 //! Places of a forest.
-use mol_base::Id;
-
 /// A place, by the numbers of others. Numbers grow downwards, and a place at the top names itself.
 #[derive(Clone, Copy)]
 pub(crate) struct Place {
-    /// A class that has this place.
-    pub class: Id,
     /// The next place up.
     pub above: usize,
     /// A place further up, or the next one.

@@ -1,7 +1,4 @@
-pub mod FirstOnWays
+pub mod NearestClimbed
 pub mod NearestFound
-pub mod OwnersAsked
-pub mod OwnersLowered
 pub mod Reached
 pub mod SupersFound
-pub mod WaysEnded

@@ -1,17 +1,17 @@
--- The way from a class up has the classes to which following superclasses leads.
-use Rattle.std.proofs.Common.{◌≡◌, ◌≢◌, ◌⊎◌, inl, inr, Bool, true, false, ◌&&◌, cond, List, [], ◌∷◌, Option, Some, None, Contains, refl, sym, ◌∙◌, ap, subst, true≢false}
+-- A class extends what its cell names, and its ancestors are the classes to which following superclasses leads.
+use Rattle.std.proofs.Common.{◌≡◌, ◌≢◌, ◌⊎◌, inl, inr, Bool, true, false, ◌&&◌, cond, List, Option, Some, None, refl, sym, ◌∙◌, ap, subst, true≢false}
 use Rattle.std.specs.FinMap.{get}
 use Rattle.std.specs.List.{list_all}
 use Rattle.std.proofs.lemmas.Bool.Decides.{same_from_decides}
 use Rattle.jav_view.proofs.AncestorsFound.{ancestors_known}
-use Rattle.jav_view.proofs.Lists.{Decides-fails, stands_first, stands_later, stands_where, stands_nowhere}
-use Rattle.jav_view.proofs.Ways.{has_class-decides, one_way, way-is}
-use Rattle.jav_view.specs.Ancestors.{Extends, Follows, IsAncestor, Leads}
-use Rattle.jav_view.specs.LookUps.{ancestors, is_ancestor, way}
+use Rattle.jav_view.proofs.Lists.{Decides-fails}
+use Rattle.jav_view.proofs.Ways.{has_class-decides}
+use Rattle.jav_view.specs.Ancestors.{Extends, IsAncestor, Leads}
+use Rattle.jav_view.specs.LookUps.{is_ancestor}
 use Rattle.jav_view.specs.Views.{class_type, AreOrdered, View, ViewType}
 use Rattle.mol_base.specs.declared.ident.Id.{Id}
 use Rattle.mol_declared.proofs.LivingClasses.{has-is}
-use Rattle.mol_hierarchy.proofs.Following.{further, itself, one-step, stays}
+use Rattle.mol_hierarchy.proofs.Following.{further, one-step, stays}
 use Rattle.mol_hierarchy.proofs.OnWays.{on_way-decides}
 use Rattle.mol_hierarchy.specs.Reaching.{Reaches}
 use Rattle.mol_spell.proofs.ProgramsViewed.{programs_viewed}
@@ -154,7 +154,7 @@ module _ (program : Program) (rules : IsProgram program) where
 
   -- ---- one step
 
-  pub extended : (class above : Id) → Extends view class above → upward program (Some class) ≡ Some above
+  extended : (class above : Id) → Extends view class above → upward program (Some class) ≡ Some above
   extended class above extends =
       let has = seen-parent (value_at program class slots.Super) above extends.named in
       ap (λ value. living_parent program (parent_in value)) has.1
@@ -190,7 +190,7 @@ module _ (program : Program) (rules : IsProgram program) where
 
   -- ---- many
 
-  pub reached : (class above : Id) → Leads view class above → Reaches program class above
+  reached : (class above : Id) → Leads view class above → Reaches program class above
   reached class above (Leads.last_step step) = one-step program class above (extended class above step)
   reached class above (Leads.step {above = next} step leads) =
       further program class next above (one-step program class next (extended class next step)) (reached next above leads)
@@ -202,18 +202,6 @@ module _ (program : Program) (rules : IsProgram program) where
     on below next (inl same) up = inr (Leads.last_step (subst (λ c. Extends view c next) (sym same) (extends below next up)))
     on below next (inr leads) up = inr (leads-further view next leads (extends below next up))
 
-  pub follows-reached : {met classes : List Id} {class : Id} → Follows view met class classes → (x : Id) → Contains classes x
-      → Reaches program class x
-  follows-reached (Follows.up {way = rest} {class = class} {above = above} step new more) x stands =
-      by (stands_where class x rest stands) (follows-reached more x) where
-        by : (class ≡ x) ⊎ Contains rest x → (Contains rest x → Reaches program above x) → Reaches program class x
-        by (inl same) later = subst (Reaches program class) same (itself program class)
-        by (inr there) later = further program class above x (one-step program class above (extended class above step)) (later there)
-  follows-reached (Follows.end {class = class} ends) x stands = by (stands_where class x [] stands) where
-    by : (class ≡ x) ⊎ Contains [] x → Reaches program class x
-    by (inl same) = subst (Reaches program class) same (itself program class)
-    by (inr none) = absurd (stands_nowhere x none)
-
   ancestor : (class above : Id) → same_id class above ≡ false → Reaches program class above → IsAncestor view class above
   ancestor class above apart reaches = by (led class above reaches) where
     differs : above ≢ class
@@ -222,20 +210,6 @@ module _ (program : Program) (rules : IsProgram program) where
     by : (class ≡ above) ⊎ Leads view class above → IsAncestor view class above
     by (inl same) = absurd (differs (sym same))
     by (inr leads) = (ancestors_known Id Id).reached view class above ordered leads differs
-
-  -- each class that is reached is on the way
-  pub on-way : (class above : Id) → Reaches program class above → Contains (way view class) above
-  on-way class above reaches = by (same_id class above) refl where
-    begins : way view class ≡ class ∷ ancestors view class
-    begins = (ancestors_known Id Id).ways_begin view class
-
-    by : (b : Bool) → same_id class above ≡ b → Contains (way view class) above
-    by true same = subst (λ classes. Contains classes above) (sym begins)
-        (subst (Contains (class ∷ ancestors view class)) (id_tied class above same) (stands_first class (ancestors view class)))
-    by false apart =
-        let is = ancestor class above apart reaches in
-        subst (λ classes. Contains classes above) (sym (one_way view ordered (way-is view ordered class) is.way))
-        (stands_later class above is.ancestors is.met)
 
   -- ---- ancestors
 

@@ -1,3 +1,2 @@
 pub use Rattle.mol_declared.specs.Indexed
-pub mod Owners
 pub mod Soughts

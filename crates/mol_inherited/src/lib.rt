@@ -3,10 +3,7 @@
 
 mod ancestors;
 mod climbed;
-mod ends;
 mod members;
-mod nearest;
-mod owners;
 mod rules;
 mod sought;
 mod supers;

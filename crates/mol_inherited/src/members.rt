@@ -4,28 +4,28 @@ ghost use Rattle.jav_scope.specs.Answers.{answered, or_of_object};
 ghost use Rattle.jav_view.specs.LookUps.{field_from, method_from};
 ghost use Rattle.mol_spell.specs.ProgramViews.{program_view};
 
-use crate::nearest::nearest;
+use crate::climbed::climbed;
 use crate::sought::Sought;
 use jav_scope::{Found, is_object_method};
 use mol_base::{Id, Text};
 use mol_declared::MemberIndex;
 
 /// The field of this name that is nearest from a class up: the class and its superclasses that live, up to one that was met already
-/// (JLS 8.3). Without one it is outside where they end in an outside class. It takes no memory. The time is logarithmic in the number of
-/// classes and fields. Where more than 16 fields have the name it is that for each class from this one up to that of the field.
+/// (JLS 8.3). Without one it is outside where they end in an outside class. It takes no memory. The time is that of some look-ups, each
+/// logarithmic in the number of fields: as many as the number of classes has binary digits, but in a circle of superclasses.
 pub fn field_of(members: &MemberIndex<'_>, class: &Id, name: &str) -> Found<Id>
     ensures { result ≡ answered (λ field. field.key) (field_from (program_view members.now) class.now name.now) }
 {
-    nearest(members, class, Sought::Field(name))
+    climbed(members, class, Sought::Field(name))
 }
 
 /// The declaration of the method of this name and number of parameters that is nearest from a class up (JLS 8.4.8, 15.12.2). Without one
 /// it is outside where the superclasses end in an outside class, or where `Object` has it. It takes no memory, and as much time as
-/// `field_of`, by the declarations of methods of the name, whatever their parameters.
+/// `field_of`, by the number of declarations.
 pub fn method_of(members: &MemberIndex<'_>, class: &Id, name: &Text, arity: u32) -> Found<Id>
     ensures { result ≡ answered (λ declared. declared.key) (method_from (program_view members.now) class.now name.now arity) }
 {
-    let found = nearest(members, class, Sought::Method(name.as_str(), arity));
+    let found = climbed(members, class, Sought::Method(name.as_str(), arity));
     or_of_object(found, is_object_method(name, arity))
 }
 

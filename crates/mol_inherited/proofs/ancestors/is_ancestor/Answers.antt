@@ -1,4 +1,4 @@
-use Rattle.std.proofs.Common.{◌∙◌, false, sym, subst}
+use Rattle.std.proofs.Common.{◌∙◌, sym, subst}
 use Rattle.mol_table.specs.Rules.{IsProgram}
 use Rattle.mol_values.proofs.Ties.{id_ties}
 use Rattle.mol_inherited.proofs.Reached.{ancestor-is, never-itself}

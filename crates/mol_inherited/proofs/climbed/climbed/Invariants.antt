@@ -1,11 +1,14 @@
-use Rattle.std.proofs.Common.{◌≡◌, ◌-◌, suc, length}
+use Rattle.std.proofs.Common.{◌≡◌, suc, length}
 use Rattle.jav_scope.specs.Climbs.{climb}
 use Rattle.mol_spell.specs.ProgramViews.{program_view}
 use Rattle.mol_inherited.specs.Soughts.{found_in_class}
 use Rattle.mol_inherited.proofs.climbed.climbed.Given as goal
 
-abbrev pub invariant-loop-step : goal.invariant-loop-step
-invariant-loop-step l =
+abbrev pub invariant-loop-left : goal.invariant-loop-left
+invariant-loop-left l =
     climb (suc (length (program_view l.members).classes.items)) (program_view l.members) (found_in_class (program_view l.members) l.sought)
-    l.fn.class
-    ≡ climb (l.steps - l._step) (program_view l.members) (found_in_class (program_view l.members) l.sought) l.at
+    l.class
+    ≡ climb l.left (program_view l.members) (found_in_class (program_view l.members) l.sought) l.at
+
+abbrev pub decreases-loop-left : goal.decreases-loop-left
+decreases-loop-left l = l.left

@@ -3,4 +3,4 @@ use Rattle.mol_inherited.proofs.NearestFound.{field-found}
 use Rattle.mol_inherited.proofs.members.field_of.Goals as goal
 
 pub returns : goal.returns
-returns c = c.nearest.ensures ∙ field-found c.args.members.now c.args.class.now c.args.name.now
+returns c = c.climbed.ensures ∙ field-found c.args.members.now c.args.class.now c.args.name.now

@@ -13,7 +13,7 @@ pub returns : goal.returns
 returns c =
     let view = program_view c.args.members.now in
     c.or_of_object.ensures
-    ∙ (λ i. or_of_object (c.is_object_method.ensures i) (c.nearest-found.ensures i))
+    ∙ (λ i. or_of_object (c.is_object_method.ensures i) (c.climbed-found.ensures i))
     ∙ ap (λ (name : Name). or_of_object (is_object_method c.args.name.now c.args.arity) (answered (λ (id : Id). id)
     (climb (suc (length view.classes.items)) view
     (λ class. option_map (λ declared. declared.key) (declared_method view class name c.args.arity)) c.args.class.now))) c.as_str.ensures

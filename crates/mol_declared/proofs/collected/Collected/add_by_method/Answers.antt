@@ -1,6 +1,6 @@
-use Rattle.std.proofs.Common.{sym}
+use Rattle.std.proofs.Common.{map, sym}
 use Rattle.std.proofs.lemmas.List.{append-nil}
-use Rattle.mol_declared.specs.Owners.{owners_at}
+use Rattle.mol_declared.specs.Owners.{row_of}
 use Rattle.mol_declared.proofs.MembersAdded.{pushed}
 use Rattle.mol_declared.proofs.collected.Collected.add_by_method.Goals as goal
 
@@ -13,6 +13,6 @@ returns c =
       constructors = sym (append-nil old.constructors.items);
       constructed = sym (append-nil old.constructed.items);
       declared = pushed old.declared.items _ _ _ c.in_ok-push.ensures.items c.nameless_entry.ensures;
-      field_owners = λ name. sym (append-nil (owners_at old.field_owners.entries name));
-      method_owners = λ name. sym (append-nil (owners_at old.method_owners.entries name));
+      field_owners = sym (append-nil (map row_of old.field_owners.items));
+      method_owners = sym (append-nil (map row_of old.method_owners.items));
     }

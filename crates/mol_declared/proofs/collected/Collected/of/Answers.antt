@@ -1,7 +1,7 @@
-use Rattle.std.proofs.Common.{ap}
+use Rattle.std.proofs.Common.{map, ap}
 use Rattle.mol_declared.proofs.MembersAdded.{collects-all, collects-more}
 use Rattle.mol_declared.proofs.collected.Collected.of.Goals as goal
-use Rattle.mol_declared.specs.Owners.{owners_at}
+use Rattle.mol_declared.specs.Owners.{row_of}
 
 pub loop-id-init : goal.loop-id-init
 loop-id-init c =
@@ -12,8 +12,8 @@ loop-id-init c =
       constructors = none.constructors;
       constructed = none.constructed;
       declared = none.declared;
-      field_owners = λ name. ap (λ owners. owners_at owners name) none.field_owners;
-      method_owners = λ name. ap (λ owners. owners_at owners name) none.method_owners;
+      field_owners = ap (map row_of) none.field_owners;
+      method_owners = ap (map row_of) none.method_owners;
     }
 
 pub loop-id-preserved : goal.loop-id-preserved

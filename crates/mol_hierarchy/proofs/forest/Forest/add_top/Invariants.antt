@@ -8,7 +8,7 @@ use Rattle.mol_hierarchy.proofs.forest.Forest.add_top.Given as goal
 
 abbrev pub invariant-loop-class : goal.invariant-loop-class
 invariant-loop-class l = record {
-  places : l.self.places.items ≡ l.fn.self.places.items ++ top_place l.fn.top (length l.fn.self.places.items) ∷ [];
+  places : l.self.places.items ≡ l.fn.self.places.items ++ top_place (length l.fn.self.places.items) ∷ [];
   numbers : (class : Id) → number_in l.self.numbers.entries class
       ≡ cond (list_any (same_id class) (take l.class-index l.classes)) (Some (length l.fn.self.places.items))
       (number_in l.fn.self.numbers.entries class);

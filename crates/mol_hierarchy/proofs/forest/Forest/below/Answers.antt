@@ -25,7 +25,7 @@ returns-then-next-further c =
     let within : next.jump < length places = omega (arith, up-low places c.requires.places jump, c.requires.within) in
     let beyond : slice_get places next.jump ≡ Some further =
     slice_get_read places (length places) next.jump further refl within c.index-further.ensures in
-    record { named = refl; next = refl; jump = up-on places jump (c.requires.places next.jump further beyond).jump }
+    record { next = refl; jump = up-on places jump (c.requires.places next.jump further beyond).jump }
 
 pub returns-else-next-further : goal.returns-else-next-further
-returns-else-next-further c = record { named = refl; next = refl; jump = here }
+returns-else-next-further c = record { next = refl; jump = here }

@@ -44,7 +44,7 @@ returns-then-not-is_new-clause-line c =
     (found-at more first c.up.at stored.0 stored.1 stored.2)
     (same-keys keys more c.up.at c.in_ok-first.is_new c.in_ok-first.ensures.added c.in_ok-first.ensures.keys c.if-not-is_new.true) in
     of-line c.topped.result (take first more) (length places)
-    (Adds numbers places (drop first more) (top_place c.up.at (length places)) new_numbers new_places)
+    (Adds numbers places (drop first more) (top_place (length places)) new_numbers new_places)
     c.topped.ensures.left c.topped.ensures.above c.topped.ensures.added (λ ids number. IsLine program new_numbers c.args.class ids number)
     (λ adds. ended-line program numbers places c.args.class c.up.at more first ended new_numbers new_places adds)
 
@@ -63,7 +63,7 @@ returns-then-not-is_new-clause-unplaced c =
     (found-at more first c.up.at stored.0 stored.1 stored.2)
     (same-keys keys more c.up.at c.in_ok-first.is_new c.in_ok-first.ensures.added c.in_ok-first.ensures.keys c.if-not-is_new.true) in
     of-line c.topped.result (take first more) (length places)
-    (Adds numbers places (drop first more) (top_place c.up.at (length places)) new_numbers new_places)
+    (Adds numbers places (drop first more) (top_place (length places)) new_numbers new_places)
     c.topped.ensures.left c.topped.ensures.above c.topped.ensures.added (λ ids number. AreNew new_numbers ids)
     (λ adds. ended-unplaced program numbers places c.args.class c.up.at more first ended new_numbers new_places adds
     c.in_ok-first.ensures.unique)
@@ -82,7 +82,7 @@ returns-then-not-is_new-clause-placed c =
     let ended = circle-ended program numbers c.args.class c.up.at keys more first c.up.invariant.leads c.up.invariant.unplaced
     (found-at more first c.up.at stored.0 stored.1 stored.2)
     (same-keys keys more c.up.at c.in_ok-first.is_new c.in_ok-first.ensures.added c.in_ok-first.ensures.keys c.if-not-is_new.true) in
-    of-state c.topped.result (Adds numbers places (drop first more) (top_place c.up.at (length places)) new_numbers new_places)
+    of-state c.topped.result (Adds numbers places (drop first more) (top_place (length places)) new_numbers new_places)
     (ArePlaced program new_numbers new_places) c.topped.ensures.added
     (λ adds. ended-placed program numbers places c.args.class c.up.at more first ended new_numbers new_places adds c.up.invariant.placed)
 
@@ -100,7 +100,7 @@ returns-then-not-is_new-clause-kept c =
     let ended = circle-ended program numbers c.args.class c.up.at keys more first c.up.invariant.leads c.up.invariant.unplaced
     (found-at more first c.up.at stored.0 stored.1 stored.2)
     (same-keys keys more c.up.at c.in_ok-first.is_new c.in_ok-first.ensures.added c.in_ok-first.ensures.keys c.if-not-is_new.true) in
-    of-state c.topped.result (Adds numbers places (drop first more) (top_place c.up.at (length places)) new_numbers new_places)
+    of-state c.topped.result (Adds numbers places (drop first more) (top_place (length places)) new_numbers new_places)
     (Keeps c.args.self.now.numbers.entries new_numbers) c.topped.ensures.added
     (λ adds class had. ended-kept program numbers places c.args.class c.up.at more first ended new_numbers new_places adds class
     (c.up.invariant.kept class had))
@@ -162,7 +162,7 @@ returns-in-None-clause-line c =
     (sym c.living_parent.ensures ∙ c.in-None.is) bare
     (unmet-before keys more c.up.at is_new c.in_ok-first.ensures.added c.in_ok-first.ensures.keys c.if-not-is_new.false) in
     of-line c.topped-in-None.result (take first more) (length places)
-    (Adds numbers places (drop first more) (top_place c.up.at (length places)) new_numbers new_places)
+    (Adds numbers places (drop first more) (top_place (length places)) new_numbers new_places)
     c.topped-in-None.ensures.left c.topped-in-None.ensures.above c.topped-in-None.ensures.added
     (λ ids number. IsLine program new_numbers c.args.class ids number)
     (λ adds. ended-line program numbers places c.args.class c.up.at more first ended new_numbers new_places adds)
@@ -187,7 +187,7 @@ returns-in-None-clause-unplaced c =
     (sym c.living_parent.ensures ∙ c.in-None.is) bare
     (unmet-before keys more c.up.at is_new c.in_ok-first.ensures.added c.in_ok-first.ensures.keys c.if-not-is_new.false) in
     of-line c.topped-in-None.result (take first more) (length places)
-    (Adds numbers places (drop first more) (top_place c.up.at (length places)) new_numbers new_places)
+    (Adds numbers places (drop first more) (top_place (length places)) new_numbers new_places)
     c.topped-in-None.ensures.left c.topped-in-None.ensures.above c.topped-in-None.ensures.added (λ ids number. AreNew new_numbers ids)
     (λ adds. ended-unplaced program numbers places c.args.class c.up.at more first ended new_numbers new_places adds
     c.in_ok-first.ensures.unique)
@@ -211,7 +211,7 @@ returns-in-None-clause-placed c =
     (pushed keys more c.up.at is_new c.in_ok-first.ensures.added c.in_ok-first.ensures.keys c.if-not-is_new.false)
     (sym c.living_parent.ensures ∙ c.in-None.is) bare
     (unmet-before keys more c.up.at is_new c.in_ok-first.ensures.added c.in_ok-first.ensures.keys c.if-not-is_new.false) in
-    of-state c.topped-in-None.result (Adds numbers places (drop first more) (top_place c.up.at (length places)) new_numbers new_places)
+    of-state c.topped-in-None.result (Adds numbers places (drop first more) (top_place (length places)) new_numbers new_places)
     (ArePlaced program new_numbers new_places) c.topped-in-None.ensures.added
     (λ adds. ended-placed program numbers places c.args.class c.up.at more first ended new_numbers new_places adds c.up.invariant.placed)
 
@@ -234,7 +234,7 @@ returns-in-None-clause-kept c =
     (pushed keys more c.up.at is_new c.in_ok-first.ensures.added c.in_ok-first.ensures.keys c.if-not-is_new.false)
     (sym c.living_parent.ensures ∙ c.in-None.is) bare
     (unmet-before keys more c.up.at is_new c.in_ok-first.ensures.added c.in_ok-first.ensures.keys c.if-not-is_new.false) in
-    of-state c.topped-in-None.result (Adds numbers places (drop first more) (top_place c.up.at (length places)) new_numbers new_places)
+    of-state c.topped-in-None.result (Adds numbers places (drop first more) (top_place (length places)) new_numbers new_places)
     (Keeps c.args.self.now.numbers.entries new_numbers) c.topped-in-None.ensures.added
     (λ adds class had. ended-kept program numbers places c.args.class c.up.at more first ended new_numbers new_places adds class
     (c.up.invariant.kept class had))
