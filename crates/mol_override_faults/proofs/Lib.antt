@@ -1,8 +1,11 @@
+pub mod Alongs
 pub mod DeclaredRows
 pub mod Filtered
-pub mod Joined
+pub mod GoingUp
 pub mod Keys
 pub mod NamedAlike
+pub mod OverAny
 pub mod OverrideFaults
 pub mod Overriding
-pub mod Ways
+pub mod PairsAbove
+pub mod RunsMarked

@@ -1,7 +1,6 @@
 -- Whether methods that are named alike are one.
-use Rattle.std.proofs.Common.{◌≡◌, ◌≢◌, ℕ, zero, suc, ◌+◌, ◌-◌, ◌<◌, ◌≤◌, Bool, true, false, not, cond, List, [], ◌∷◌, ◌++◌, length, length-drop, get_or, get_or-drop, take, drop, filter, filter_map, flat_map, take_while, Option, Some, None, Contains, slice_get, refl, sym, ◌∙◌, ap, arith, true≢false, IsPermutation, Ordering, Less, Equal, Greater}
+use Rattle.std.proofs.Common.{◌≡◌, ◌≢◌, ◌⊎◌, inl, inr, ℕ, zero, suc, ◌+◌, ◌-◌, ◌<◌, ◌≤◌, Bool, true, false, not, cond, List, [], ◌∷◌, length, length-drop, get_or, get_or-drop, take, drop, filter, take_while, Option, Some, None, Contains, slice_get, refl, sym, ◌∙◌, ap, arith, true≢false, IsPermutation, Ordering, Less, Equal, Greater}
 use Rattle.std.specs.Cmp.{IsTotalOrder, IsStrictWeakOrder}
-use Rattle.std.specs.List.{cons_option}
 use Rattle.std.specs.List.Sorted.{IsPartitionPoint, IsPartitionedBy, IsSorted, IsSortedBy}
 use Rattle.std.specs.Ordering.{is_eq, is_lt, ordering_reverse, ordering_then}
 use Rattle.std.specs.Prelude.{◌↔◌, IsFalse}
@@ -10,23 +9,21 @@ use Rattle.std.proofs.lemmas.List.Kept.{IsSortedBy-filter}
 use Rattle.std.proofs.lemmas.List.Sorted.{Contains-permutation, ranks_by, sorted_far}
 use Rattle.std.proofs.lemmas.List.Sums.{take_while-cons}
 use Rattle.jav_index.proofs.Searched.{equal-is, get-within}
-use Rattle.jav_view.proofs.Lists.{neither_less, stands_first, stands_later}
+use Rattle.jav_view.proofs.Lists.{neither_less}
 use Rattle.jav_view.specs.Views.{IsKeyOrder}
 use Rattle.mol_base.specs.Order.{id_cmp, id_cmp-total, id_cmp-IsAntisymmetric}
 use Rattle.mol_base.specs.declared.ident.Id.{Id}
-use Rattle.mol_override_faults.specs.Declarations.{Naming, key_cmp, key_of, naming_cmp, naming_of}
-use Rattle.mol_override_faults.specs.Overridden.{AreOfOneMethod, has_key, has_naming, key_in, methods_cmp, methods_differ, naming_at, overridden_by, overridden_in, pair_above}
+use Rattle.mol_override_faults.specs.Declarations.{Naming, naming_cmp}
+use Rattle.mol_override_faults.specs.Overridden.{Adds, AreOfOneMethod, IsOver, has_naming, methods_cmp, methods_differ, naming_at}
 use Rattle.mol_override_faults.specs.declared.declaration.Declaration.{Declaration}
 use Rattle.mol_override_faults.proofs.Filtered.{filter-from}
-use Rattle.mol_override_faults.proofs.Keys.{key-order, naming-order}
-use Rattle.mol_pair_faults.specs.Pairs.{ordered_pair}
+use Rattle.mol_override_faults.proofs.Keys.{naming-order}
+use Rattle.mol_override_faults.proofs.PairsAbove.{eq-is, eq-own, methods-apart}
+use Rattle.mol_pair_faults.specs.declared.pair.Pair.{Pair}
 use Rattle.mol_pair_faults.proofs.Fronts.{ascend, between}
 use Rattle.mol_spell.proofs.Stands.{get-below, in_place}
 use Rattle.mol_spelling.proofs.FilesOrdered.{filter-passes, filter-stands}
-use Rattle.mol_table.proofs.Living.{same_id-own}
-use Rattle.mol_table.specs.Ancestors.{way}
-use Rattle.mol_table.specs.Program.{Program, same_id}
-use Rattle.mol_values.proofs.Ties.{id_ties}
+use Rattle.mol_table.specs.Program.{Program}
 use Rattle.mol_values.specs.Order.{id_eq}
 
 pub methods_cmp-total : IsTotalOrder methods_cmp
@@ -35,12 +32,6 @@ methods_cmp-total = then_total (on_total naming_at naming-order.total) (on_total
 id-order : IsKeyOrder id_cmp
 id-order = record { total = id_cmp-total; same = id_cmp-IsAntisymmetric }
 
-eq-own : (first second : Id) → first ≡ second → id_eq first second ≡ true
-eq-own first second same = id_ties first second ∙ ap (same_id first) (sym same) ∙ same_id-own first
-
-eq-is : (first second : Id) → id_eq first second ≡ true → first ≡ second
-eq-is first second is = id_cmp-IsAntisymmetric first second (equal-is (id_cmp first second) (sym (id_ties first second) ∙ is))
-
 -- ---- where a method has no rival
 
 pub one-method : (rows moved : List Declaration) → IsPermutation rows moved → (naming : Naming) → AreOfOneMethod moved naming
@@ -48,40 +39,24 @@ pub one-method : (rows moved : List Declaration) → IsPermutation rows moved �
 one-method rows moved same naming alone first second of-first of-second =
     alone first second (Contains-permutation rows moved first same of-first) (Contains-permutation rows moved second same of-second)
 
-filter_map-none : {X Y : Type 0} (made : X → Option Y) (xs : List X) → ((x : X) → Contains xs x → made x ≡ None) → filter_map made xs ≡ []
-filter_map-none made [] none = refl
-filter_map-none made (x ∷ xs) none = ap (λ o. cons_option o (filter_map made xs)) (none x (stands_first x xs))
-    ∙ filter_map-none made xs (λ y stands. none y (stands_later x y xs stands))
-
-flat_map-none : {X Y : Type 0} (made : X → List Y) (xs : List X) → ((x : X) → made x ≡ []) → flat_map made xs ≡ []
-flat_map-none made [] none = refl
-flat_map-none made (x ∷ xs) none = (λ i. none x i ++ flat_map made xs) ∙ flat_map-none made xs none
-
 named : (naming : Naming) (row : Declaration) → naming ≡ naming_at row → has_naming naming row ≡ true
 named naming row same = ap is_eq (ap (naming_cmp naming) (sym same) ∙ tied_itself naming-order.total naming)
 
-module _ (program : Program) (rows : List Declaration) (row : Declaration) (stands : Contains rows row)
-    (alone : AreOfOneMethod rows (naming_at row)) where
-  none-there : (class : Id) (above : Declaration) → Contains (filter (has_key (key_in row class)) rows) above → pair_above row above ≡ None
-  none-there class above there =
-      let passes = filter-passes (has_key (key_in row class)) rows above there in
-      let key : key_in row class ≡ key_of above.key =
-      key-order.same (key_in row class) (key_of above.key) (equal-is (key_cmp (key_in row class) (key_of above.key)) passes.1) in
-      let same = alone row above stands passes.0 (named (naming_at row) row refl) (named (naming_at row) above (ap naming_of key)) in
-      ap (λ b. cond b None (ordered_pair row.id above.id)) (eq-own row.method above.method same)
+pub none-over : (program : Program) (rows : List Declaration) (row : Declaration) → Contains rows row
+    → AreOfOneMethod rows (naming_at row) → (pair : Pair) → IsOver program rows row pair → ⊥
+none-over program rows row stands alone pair over = methods-apart row over.above pair over.made
+    (alone row over.above stands over.stands (named (naming_at row) row refl) (named (naming_at row) over.above over.alike))
 
-  none-in : (class : Id) → overridden_in rows row class ≡ []
-  none-in class = by (id_eq class row.key.owner) where
-    by : (b : Bool) → cond b [] (filter_map (pair_above row) (filter (has_key (key_in row class)) rows)) ≡ []
-    by true = refl
-    by false = filter_map-none (pair_above row) (filter (has_key (key_in row class)) rows) (none-there class)
-
-  pub none-above : overridden_by program rows row ≡ []
-  none-above = flat_map-none (overridden_in rows row) (way program row.key.owner) none-in
+pub nothing-added : (program : Program) (rows : List Declaration) (row : Declaration) (pairs : List Pair)
+    → ((pair : Pair) → IsOver program rows row pair → ⊥) → Adds (IsOver program rows row) pairs pairs
+nothing-added program rows row pairs none pair = (λ stands. inl stands, by) where
+  by : Contains pairs pair ⊎ IsOver program rows row pair → Contains pairs pair
+  by (inl stands) = stands
+  by (inr over) = absurd (none pair over)
 
 -- ---- those that are named so
 
-less-first : (a b : Ordering) → is_lt (ordering_then a b) ≡ false → is_lt a ≡ false
+pub less-first : (a b : Ordering) → is_lt (ordering_then a b) ≡ false → is_lt a ≡ false
 less-first Less b is = is
 less-first Equal b is = refl
 less-first Greater b is = refl

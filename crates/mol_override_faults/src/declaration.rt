@@ -10,6 +10,8 @@ use std::cmp::Ordering;
 #[derive(Clone, Copy)]
 pub(crate) struct Declaration<'a> {
     pub key: Key<'a>,
+    /// The class in which it stands.
+    pub owner: Id,
     pub method: Id,
     pub id: Id,
 }

@@ -8,7 +8,6 @@ mod overridden;
 mod override_faults;
 mod rivals;
 mod rows;
-mod superclass;
-mod way_up;
+mod runs;
 
 pub use override_faults::false_override;

@@ -1,32 +1,60 @@
 //! The living declarations of methods, in two orders.
-ghost use Rattle.std.specs.Prelude.{◌≡◌, IfOk, map};
+ghost use Rattle.std.specs.Prelude.{◌≡◌, ◌<◌, IfOk, length, map};
 ghost use Rattle.std.specs.List.Sorted.{IsPermutation, IsSorted};
 ghost use Rattle.mol_override_faults.specs.Declarations.{AreDeclared, row_of};
-ghost use Rattle.mol_override_faults.specs.Overridden.{AreSorted, methods_cmp};
+ghost use Rattle.mol_override_faults.specs.Overridden.{AreSorted, IsNext, methods_cmp};
 
 use crate::declaration::Declaration;
 use crate::rows::by_key;
+use crate::runs::runs;
 use mol_base::OutOfMemory;
+use mol_hierarchy::Paths;
 use mol_table::Table;
 use std::alloc::Global;
 
 /// The living declarations of methods that are no constructors.
 #[derive(Drop)]
 pub(crate) struct Orders<'a> {
-    /// By number of parameters, name and class.
+    /// By number of parameters, name and position of the class.
     pub by_key: Vec<Declaration<'a>>,
+    /// For each of these places the start of the run of declarations of one method that ends there.
+    pub runs: Vec<usize>,
     /// By number of parameters, name and method.
     pub by_method: Vec<Declaration<'a>>,
 }
 
-/// Those of a table.
-pub(crate) fn orders_of<'a>(alloc: Global, table: &'a Table) -> Result<Orders<'a>, OutOfMemory>
-    ensures each { IfOk result (λ orders. AreDeclared table.now (map row_of orders.by_key.items)) }
+impl Orders<'_> {
+    /// How many of the first ones are left to look at after the one at a place. A run of the given declaration's method is passed at once.
+    pub(crate) fn left_after(&self, row: &Declaration<'_>, last: usize) -> usize
+        requires sorted { AreSorted self.now }
+        requires within { last < length self.now.by_key.items }
+        ensures { IsNext self.now.by_key.items row.now last result }
+    {
+        if self.by_key[last].method == row.method {
+            self.runs[last]
+        } else {
+            last
+        }
+    }
+}
+
+/// Those of a table, whose classes stand on these paths.
+pub(crate) fn orders_of<'a>(
+    alloc: Global,
+    table: &'a Table,
+    paths: &Paths,
+) -> Result<Orders<'a>, OutOfMemory>
+    ensures each { IfOk result (λ orders. AreDeclared table.now paths.now.positions.entries (map row_of orders.by_key.items)) }
     ensures sorted { IfOk result AreSorted }
 {
-    let by_key = by_key(alloc, table)?;
+    let by_key = by_key(alloc, table, paths)?;
+    let runs = runs(alloc, by_key.as_slice())?;
     let by_method = by_method(alloc, by_key.as_slice())?;
-    Ok(Orders { by_key, by_method })
+    Ok(Orders {
+        by_key,
+        runs,
+        by_method,
+    })
 }
 
 /// Declarations by number of parameters, name and method.

@@ -1,15 +1,14 @@
 //! Declarations that would be overridden by those of other methods.
-ghost use Rattle.std.specs.Prelude.{◌≡◌, ◌++◌, Contains, IfOk, OnOk, filter_map, flat_map, take_while};
-ghost use Rattle.std.specs.List.Sorted.{IsSorted};
-ghost use Rattle.mol_override_faults.specs.Declarations.{key_of, rows_cmp};
-ghost use Rattle.mol_override_faults.specs.Overridden.{AreSorted, has_key, overridden_by, overridden_in, pair_above};
+ghost use Rattle.std.specs.Prelude.{◌≡◌, ◌⊎◌, ◌↔◌, Contains, IfOk, OnOk};
+ghost use Rattle.mol_hierarchy.specs.Paths.{ArePaths};
+ghost use Rattle.mol_override_faults.specs.Overridden.{Adds, ArePlaced, AreSorted, IsAlong, IsOver, IsOverAny, pair_above};
 
 use crate::declaration::Declaration;
 use crate::key::Key;
 use crate::orders::Orders;
 use crate::rivals::are_rivals;
-use crate::way_up::way_up;
 use mol_base::{Id, OutOfMemory};
+use mol_hierarchy::{Paths, Position, living_parent};
 use mol_pair_faults::{Pair, add_pair, ordered};
 use mol_table::Table;
 use std::alloc::Global;
@@ -18,101 +17,115 @@ use std::alloc::Global;
 pub(crate) fn overridden(
     alloc: Global,
     table: &Table,
+    paths: &Paths,
     orders: &Orders<'_>,
 ) -> Result<Vec<Pair>, OutOfMemory>
-    requires { AreSorted orders.now }
-    ensures { IfOk result (λ pairs. let rows = orders.now.by_key.items in
-        pairs.items ≡ flat_map (overridden_by table.now rows) rows) }
+    requires paths { ArePaths table.now paths.now.positions.entries }
+    requires placed { ArePlaced paths.now.positions.entries orders.now.by_key.items }
+    requires sorted { AreSorted orders.now }
+    ensures { IfOk result (λ pairs. let rows = orders.now.by_key.items in (pair : Pair)
+        → Contains pairs.items pair ↔ IsOverAny table.now rows rows pair) }
 {
     let mut pairs = Vec::new(alloc);
     for row in orders.by_key.as_slice() {
-        add_overridden(alloc, table, &mut pairs, row, orders)?;
+        add_overridden(table, paths, &mut pairs, row, orders)?;
     }
     Ok(pairs)
 }
 
 /// Adds those of one. Where no other method is named as its method is, none is looked for.
 fn add_overridden(
-    alloc: Global,
     table: &Table,
+    paths: &Paths,
     pairs: &mut Vec<Pair>,
     row: &Declaration<'_>,
     orders: &Orders<'_>,
 ) -> Result<(), OutOfMemory>
+    requires paths { ArePaths table.now paths.now.positions.entries }
+    requires placed { ArePlaced paths.now.positions.entries orders.now.by_key.items }
     requires sorted { AreSorted orders.now }
     requires stands { Contains orders.now.by_key.items row.now }
-    ensures { OnOk result (pairs.new.items ≡ pairs.old.items ++ overridden_by table.now orders.now.by_key.items row.now) }
+    ensures { OnOk result (Adds (IsOver table.now orders.now.by_key.items row.now) pairs.old.items pairs.new.items) }
 {
     if !are_rivals(orders.by_method.as_slice(), &row.key) {
         return Ok(());
     }
-    add_above(alloc, table, pairs, row, orders.by_key.as_slice())
+    add_above(table, paths, pairs, row, orders)
 }
 
-/// Adds those of one, among these, which are sorted by their keys.
+/// Adds those of one, path by path up from its class, until there is no class further up, or one is met again.
 fn add_above(
-    alloc: Global,
     table: &Table,
+    paths: &Paths,
     pairs: &mut Vec<Pair>,
     row: &Declaration<'_>,
-    rows: &[Declaration<'_>],
+    orders: &Orders<'_>,
 ) -> Result<(), OutOfMemory>
-    requires { IsSorted rows_cmp rows.now }
-    ensures { OnOk result (pairs.new.items ≡ pairs.old.items ++ overridden_by table.now rows.now row.now) }
+    requires paths { ArePaths table.now paths.now.positions.entries }
+    requires placed { ArePlaced paths.now.positions.entries orders.now.by_key.items }
+    requires sorted { AreSorted orders.now }
+    ensures { OnOk result (Adds (IsOver table.now orders.now.by_key.items row.now) pairs.old.items pairs.new.items) }
 {
-    let classes = way_up(alloc, table, row.key.owner)?;
-    for class in classes.as_slice() {
-        add_in_class(pairs, row, class, rows)?;
+    let known = table.ids();
+    let mut at = living_parent(table, &row.owner);
+    let mut mark = row.owner;
+    for turn in 0..known.len() {
+        let Some(class) = at else {
+            return Ok(());
+        };
+        if class == mark {
+            // These superclasses run in a circle.
+            return Ok(());
+        }
+        let position = paths.position(&class);
+        add_along(pairs, row, &position, orders)?;
+        at = living_parent(table, &position.top);
+        mark = next_mark(turn, mark, class);
     }
     Ok(())
 }
 
-/// Adds those with declarations in a class.
-fn add_in_class(
+/// The class that tells a circle when it is met again: a later one, each time twice as many paths are passed.
+fn next_mark(turn: usize, mark: Id, class: Id) -> Id
+    ensures { (result ≡ mark) ⊎ (result ≡ class) }
+{
+    if turn.is_power_of_two() { class } else { mark }
+}
+
+/// Adds those with declarations in the classes from a position up the path, the lowest first.
+fn add_along(
     pairs: &mut Vec<Pair>,
     row: &Declaration<'_>,
-    class: &Id,
-    rows: &[Declaration<'_>],
+    position: &Position,
+    orders: &Orders<'_>,
 ) -> Result<(), OutOfMemory>
-    requires { IsSorted rows_cmp rows.now }
-    ensures { OnOk result (pairs.new.items ≡ pairs.old.items ++ overridden_in rows.now row.now class.now) }
+    requires { AreSorted orders.now }
+    ensures { OnOk result (Adds (IsAlong orders.now.by_key.items row.now position.now) pairs.old.items pairs.new.items) }
 {
-    if *class == row.key.owner {
-        return Ok(());
-    }
     let key = Key {
         arity: row.key.arity,
         name: row.key.name,
-        owner: *class,
+        position: *position,
     };
-    let start = rows.partition_point(|candidate| candidate.key.compare(&key).is_lt());
-    add_first(pairs, row, &key, &rows[start..])
-}
-
-/// Adds those with the declarations of this key that stand first.
-fn add_first(
-    pairs: &mut Vec<Pair>,
-    row: &Declaration<'_>,
-    key: &Key<'_>,
-    later: &[Declaration<'_>],
-) -> Result<(), OutOfMemory>
-    ensures { OnOk result (pairs.new.items
-        ≡ pairs.old.items ++ filter_map (pair_above row.now) (take_while (has_key (key_of key.now)) later.now)) }
-{
-    for next in later {
-        if !key.compare(&next.key).is_eq() {
+    let rows = orders.by_key.as_slice();
+    let count = rows.partition_point(|candidate| candidate.key.compare(&key).is_le());
+    let mut left = count;
+    while left > 0 {
+        let above = &orders.by_key[left - 1];
+        if !key.compare_path(&above.key).is_eq() {
             return Ok(());
         }
-        add_pair(pairs, pair_above(row, next))?;
+        add_pair(pairs, pair_above(row, above))?;
+        left = orders.left_after(row, left - 1);
     }
     Ok(())
 }
 
-/// The pair of two declarations, if their methods differ.
+/// The pair of two declarations, if their methods and their classes differ.
 fn pair_above(row: &Declaration<'_>, above: &Declaration<'_>) -> Option<Pair>
     ensures { result ≡ pair_above row.now above.now }
 {
-    if row.method == above.method {
+    if row.method == above.method || row.owner == above.owner {
         None
     } else {
         ordered(row.id, above.id)

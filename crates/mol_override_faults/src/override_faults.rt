@@ -2,6 +2,7 @@
 ghost use Rattle.std.specs.Prelude.{◌≡◌, IfOk, map};
 ghost use Rattle.mol_fault.specs.Kept.{kept_fault};
 ghost use Rattle.mol_fault.specs.OfKind.{AreAllOfKind};
+ghost use Rattle.mol_hierarchy.specs.Paths.{ArePaths};
 ghost use Rattle.mol_override_faults.specs.Overridden.{override_fault};
 ghost use Rattle.mol_pair_faults.specs.Pairs.{ArePairsOf};
 ghost use Rattle.mol_spelling.specs.NameFaults.{FalseOverride};
@@ -10,6 +11,7 @@ use crate::orders::orders_of;
 use crate::overridden::overridden;
 use mol_base::{List, OutOfMemory};
 use mol_fault::Fault;
+use mol_hierarchy::{Hierarchy, Paths};
 use mol_ordered::in_order;
 use mol_pair_faults::Pair;
 use mol_table::Table;
@@ -18,7 +20,8 @@ use std::alloc::Global;
 /// The faults of kind 1, ascending: pairs of living declarations of two methods that are no constructors, with equal names and numbers of
 /// parameters, in a class and an ancestor of it, so that one would override the other (JLS 8.4.8.1). The time is that of a few look-ups for
 /// each known identity, of sorting the declarations, of the faults, and, for each declaration whose name and number of parameters another
-/// method has too, of the ancestors of its class. `Err` is want of memory.
+/// method has too, of a search for each path of classes on the way up from its class: no more of them than the number of classes has binary
+/// digits, but where superclasses run in a circle. `Err` is want of memory.
 pub fn false_override(alloc: Global, table: &Table) -> Result<List<Fault>, OutOfMemory>
     ensures { IfOk result (λ faults. AreAllOfKind table.now 1 faults) }
 {
@@ -31,8 +34,17 @@ pub fn false_override(alloc: Global, table: &Table) -> Result<List<Fault>, OutOf
 fn override_pairs(alloc: Global, table: &Table) -> Result<Vec<Pair>, OutOfMemory>
     ensures { IfOk result (λ pairs. ArePairsOf (FalseOverride table.now) pairs.items) }
 {
-    let orders = orders_of(alloc, table)?;
-    overridden(alloc, table, &orders)
+    let paths = paths_of(alloc, table)?;
+    let orders = orders_of(alloc, table, &paths)?;
+    overridden(alloc, table, &paths, &orders)
+}
+
+/// The paths of the classes.
+fn paths_of(alloc: Global, table: &Table) -> Result<Paths, OutOfMemory>
+    ensures { IfOk result (λ paths. ArePaths table.now paths.positions.entries) }
+{
+    let hierarchy = Hierarchy::new(alloc, table)?;
+    hierarchy.paths(alloc)
 }
 
 /// The faults of these pairs.

@@ -9,30 +9,36 @@ use crate::declaration::Declaration;
 use crate::key::Key;
 use mol_base::{Id, OutOfMemory};
 use mol_cells::{is_live, name_of, owner_of, params_of};
+use mol_hierarchy::Paths;
 use mol_table::{Known, MethodKind, Table};
 use std::alloc::Global;
 
-/// The living declarations of methods that are no constructors, by number of parameters, name and class.
+/// The living declarations of methods that are no constructors, by number of parameters, name and position of the class.
 pub(crate) fn by_key<'a>(
     alloc: Global,
     table: &'a Table,
+    paths: &Paths,
 ) -> Result<Vec<Declaration<'a>>, OutOfMemory>
-    ensures each { IfOk result (λ rows. AreDeclared table.now (map row_of rows.items)) }
+    ensures each { IfOk result (λ rows. AreDeclared table.now paths.now.positions.entries (map row_of rows.items)) }
     ensures sorted { IfOk result (λ rows. IsSorted rows_cmp rows.items) }
 {
-    let mut rows = declarations(alloc, table)?;
+    let mut rows = declarations(alloc, table, paths)?;
     rows.sort_by(|former, latter| former.key.compare(&latter.key))?;
     Ok(rows)
 }
 
 /// Those of all that is known, in the order of their identities.
-fn declarations<'a>(alloc: Global, table: &'a Table) -> Result<Vec<Declaration<'a>>, OutOfMemory>
-    ensures { IfOk result (λ rows. AreDeclared table.now (map row_of rows.items)) }
+fn declarations<'a>(
+    alloc: Global,
+    table: &'a Table,
+    paths: &Paths,
+) -> Result<Vec<Declaration<'a>>, OutOfMemory>
+    ensures { IfOk result (λ rows. AreDeclared table.now paths.now.positions.entries (map row_of rows.items)) }
 {
     let mut rows = Vec::new(alloc);
     for id in table.ids() {
         if is_live(table, id) {
-            if let Some(row) = declared_as(table, id) {
+            if let Some(row) = declared_as(table, paths, id) {
                 if rows.push(row).is_err() {
                     return Err(OutOfMemory);
                 }
@@ -43,37 +49,40 @@ fn declarations<'a>(alloc: Global, table: &'a Table) -> Result<Vec<Declaration<'
 }
 
 /// A declaration of a method that is no constructor, if this is known as one.
-fn declared_as<'a>(table: &'a Table, id: &Id) -> Option<Declaration<'a>>
-    ensures { option_map row_of result ≡ declared_as table.now id.now (fin.get table.now.known id.now) }
+fn declared_as<'a>(table: &'a Table, paths: &Paths, id: &Id) -> Option<Declaration<'a>>
+    ensures { let known = fin.get table.now.known id.now in
+        option_map row_of result ≡ declared_as table.now paths.now.positions.entries id.now known }
 {
     match table.known(*id) {
-        Some(Known::Decl(method)) => declared_of(table, id, &method),
+        Some(Known::Decl(method)) => declared_of(table, paths, id, &method),
         _ => None,
     }
 }
 
 /// That of this method, if it is no constructor.
-fn declared_of<'a>(table: &'a Table, id: &Id, method: &Id) -> Option<Declaration<'a>>
-    ensures { option_map row_of result ≡ declared_of table.now id.now method.now }
+fn declared_of<'a>(table: &'a Table, paths: &Paths, id: &Id, method: &Id) -> Option<Declaration<'a>>
+    ensures { option_map row_of result ≡ declared_of table.now paths.now.positions.entries id.now method.now }
 {
     if is_method(table, method) {
-        owned_of(table, id, method)
+        owned_of(table, paths, id, method)
     } else {
         None
     }
 }
 
 /// That of this method, if it stands in a class.
-fn owned_of<'a>(table: &'a Table, id: &Id, method: &Id) -> Option<Declaration<'a>>
-    ensures { option_map row_of result ≡ option_map (declared_in table.now id.now method.now) (owner_at table.now id.now) }
+fn owned_of<'a>(table: &'a Table, paths: &Paths, id: &Id, method: &Id) -> Option<Declaration<'a>>
+    ensures { let declared = declared_in table.now paths.now.positions.entries id.now method.now in
+        option_map row_of result ≡ option_map declared (owner_at table.now id.now) }
 {
     match owner_of(table, id) {
         Some(owner) => Some(Declaration {
             key: Key {
                 arity: params_of(table, method).len(),
                 name: name_of(table, method).as_bytes(),
-                owner,
+                position: paths.position(&owner),
             },
+            owner,
             method: *method,
             id: *id,
         }),

@@ -1,5 +1,6 @@
 use Rattle.std.proofs.Common.{subst, List}
 use Rattle.std.specs.List.Sorted.{IsPermutation}
+use Rattle.mol_override_faults.specs.Overridden.{AreRuns}
 use Rattle.mol_override_faults.specs.declared.declaration.Declaration.{Declaration}
 use Rattle.mol_override_faults.proofs.orders.orders_of.Goals as goal
 
@@ -9,7 +10,8 @@ returns c = record {
   sorted = record {
     by_key = c.in_ok-by_key.ensures.sorted;
     by_method = c.in_ok-by_method.ensures.sorted;
-    same = subst (λ (rows : List Declaration). IsPermutation rows c.in_ok-by_method.by_method.items) c.as_slice.ensures.value
+    same = subst (λ (rows : List Declaration). IsPermutation rows c.in_ok-by_method.by_method.items) c.as_slice-2.ensures.value
         c.in_ok-by_method.ensures.same;
+    runs = subst (λ (rows : List Declaration). AreRuns rows c.in_ok-runs.runs.items) c.as_slice.ensures.value c.in_ok-runs.ensures;
   };
 }

@@ -1,6 +1,6 @@
-use Rattle.std.proofs.Common.{◌≡◌, ◌++◌, flat_map, take}
-use Rattle.mol_override_faults.specs.Overridden.{overridden_in}
+use Rattle.mol_override_faults.proofs.GoingUp.{IsGoingUp}
 use Rattle.mol_override_faults.proofs.overridden.add_above.Given as goal
 
-abbrev pub invariant-loop-class : goal.invariant-loop-class
-invariant-loop-class l = l.pairs.items ≡ l.fn.pairs.items ++ flat_map (overridden_in l.rows l.row) (take l.class-index l.class-items)
+abbrev pub invariant-loop-turn : goal.invariant-loop-turn
+invariant-loop-turn l =
+    IsGoingUp l.table l.paths.positions.entries l.orders.by_key.items l.row l.turn l.at l.mark l.fn.pairs.items l.pairs.items

@@ -1,19 +1,25 @@
-use Rattle.std.proofs.Common.{◌≡◌, ◌<◌, ◌≤◌, ◌∙◌, ◌++◌, [], List, length, get_or, sym, ap, subst, flat_map}
-use Rattle.std.specs.List.{Contains}
+use Rattle.std.proofs.Common.{◌≡◌, ◌<◌, ◌≤◌, ◌∙◌, List, [], Contains, length, get_or, sym, ap, subst}
+use Rattle.std.specs.Prelude.{◌↔◌}
 use Rattle.std.proofs.lemmas.List.{take_all}
 use Rattle.std.proofs.lemmas.List.Elements.{Contains-get_or}
-use Rattle.mol_override_faults.specs.Overridden.{overridden_by}
+use Rattle.mol_override_faults.specs.Overridden.{IsOverAny}
 use Rattle.mol_override_faults.specs.declared.declaration.Declaration.{Declaration}
-use Rattle.mol_override_faults.proofs.Joined.{joined-more}
+use Rattle.mol_override_faults.proofs.OverAny.{none-over_any, more-over_any}
 use Rattle.mol_override_faults.proofs.overridden.overridden.Goals as goal
+use Rattle.mol_pair_faults.specs.declared.pair.Pair.{Pair}
 
-pub add_overridden-requires : goal.add_overridden-requires
-add_overridden-requires c =
+pub loop-row-init : goal.loop-row-init
+loop-row-init c = subst (λ (pairs : List Pair). (pair : Pair)
+    → Contains pairs pair ↔ IsOverAny c.args.table.now c.args.orders.now.by_key.items [] pair) (sym c.new-pairs.ensures.items)
+    (none-over_any c.args.table.now c.args.orders.now.by_key.items)
+
+pub add_overridden-requires-clause-stands : goal.add_overridden-requires-clause-stands
+add_overridden-requires-clause-stands c =
     let rows = c.as_slice-row-items in
     let row = c.row-item.result in
     let among : Contains rows.result.now row =
     subst (Contains rows.result.now) (sym c.row-item.is) (Contains-get_or rows.result.now c.loop-row.row-index row c.loop-row-test.true) in
-    record { sorted = c.requires; stands = subst (λ (ds : List Declaration). Contains ds row) rows.ensures.value among }
+    subst (λ (ds : List Declaration). Contains ds row) rows.ensures.value among
 
 pub loop-row-preserved : goal.loop-row-preserved
 loop-row-preserved c =
@@ -21,15 +27,16 @@ loop-row-preserved c =
     let rows = c.args.orders.now.by_key.items in
     let i = c.loop-row.row-index in
     let row = c.row-item.result in
-    let by = overridden_by c.args.table.now rows in
     let within : i < length rows = subst (λ (ds : List Declaration). i < length ds) items.ensures.value c.loop-row-test.true in
     let is : row ≡ get_or rows i row = c.row-item.is ∙ ap (λ (ds : List Declaration). get_or ds i row) items.ensures.value in
-    c.in_ok-add_overridden.ensures ∙ (λ k. c.loop-row.invariant k ++ by row) ∙ joined-more by [] rows i row within is
+    more-over_any c.args.table.now rows i row c.loop-row.pairs.items c.add_overridden.new.pairs.items within is c.loop-row.invariant
+    c.in_ok-add_overridden.ensures
 
 pub returns : goal.returns
 returns c =
     let items = c.as_slice-row-items in
     let rows = c.args.orders.now.by_key.items in
-    c.loop-row.invariant
-    ∙ ap (flat_map (overridden_by c.args.table.now rows)) (take_all c.loop-row.row-index rows
+    subst (λ (among : List Declaration). (pair : Pair) → Contains c.loop-row.pairs.items pair ↔ IsOverAny c.args.table.now rows among pair)
+    (take_all c.loop-row.row-index rows
     (subst (λ (ds : List Declaration). length ds ≤ c.loop-row.row-index) items.ensures.value c.loop-row-test.false))
+    c.loop-row.invariant
