@@ -73,9 +73,28 @@ def inherited_in_chain(number):
     return ended_by(number, "f();", "  int f() { return 1; }\n")
 
 
+def often_declared_in_chain(number):
+    """A chain of classes of which the first twenty declare a method, with calls of it in the last."""
+    sources = ended_by(number, "f();", "  int f() { return 0; }\n")
+    for k in range(1, 20):
+        sources[f"chain/C{k}.java"] = f"package chain;\nclass C{k} extends C{k - 1} {{\n  int f() {{ return {k}; }}\n}}\n".encode()
+    return sources
+
+
+def named_alike_in_chain(number):
+    """A chain of classes with a method each, and as many classes by themselves whose methods have the same names."""
+    sources = {"chain/C0.java": b"package chain;\nclass C0 {\n}\n"}
+    for k in range(1, number):
+        sources[f"chain/C{k}.java"] = f"package chain;\nclass C{k} extends C{k - 1} {{\n  int f{k}() {{ return {k}; }}\n}}\n".encode()
+        sources[f"chain/D{k}.java"] = f"package chain;\nclass D{k} {{\n  int f{k}() {{ return {k}; }}\n}}\n".encode()
+    return sources
+
+
 SHAPES = (("chain of classes", chain, 4000), ("fields of a class", wide, 10000), ("uses of three names", used, 10000),
           ("declarations of a method", overriding, 2000), ("declarations of a method in a chain of classes", overriding_in_chain, 4000),
           ("names in a chain of classes", named_in_chain, 4000),
           ("static calls in a chain of classes", static_in_chain, 4000),
           ("calls of `Object` in a chain of classes", outside_in_chain, 4000),
-          ("inherited calls in a chain of classes", inherited_in_chain, 4000))
+          ("inherited calls in a chain of classes", inherited_in_chain, 4000),
+          ("calls of a method of twenty classes in a chain of classes", often_declared_in_chain, 4000),
+          ("methods in a chain of classes with names of others", named_alike_in_chain, 2000))
