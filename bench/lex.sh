@@ -1,7 +1,7 @@
 #!/bin/sh
 # Lexes a generated megabyte of ordinary Java, beside the time that javac's parser takes for the same file
 # (it lexes and parses), and long runs of single characters, which have to take linear time.
-# Usage: bench/lex.sh PROGRAM, where PROGRAM is the built crate lex_count: crates/lex_count/out/lex_count after `rt run` there.
+# Usage: bench/lex.sh PROGRAM, where PROGRAM is the built crate bench_lex: crates/bench_lex/out/bench_lex after `rt run` there.
 set -eu
 program=$1
 work=$(mktemp -d)

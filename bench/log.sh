@@ -6,11 +6,11 @@
 # the lines, without its start. `jq empty` reads alone; `jq -c .` reads and writes.
 # Then logs that are refused, of half the greatest size and of the whole: a line of `[`, of digits, of one text, and line
 # ends alone. The ratio of both times is about 2 where the time is linear.
-# Usage: bench/log.sh [PROGRAM], where PROGRAM is the built crate log_count: crates/log_count/out/log_count after `rt run`
+# Usage: bench/log.sh [PROGRAM], where PROGRAM is the built crate bench_log: crates/bench_log/out/bench_log after `rt run`
 # there, where it is not given.
 set -eu
 top=$(cd "$(dirname "$0")/.." && pwd)
-program=$(readlink -f "${1:-$top/crates/log_count/out/log_count}")
+program=$(readlink -f "${1:-$top/crates/bench_log/out/bench_log}")
 [ -x "$program" ] || { echo "usage: bench/log.sh [PROGRAM]: $program is no program"; exit 2; }
 work=$(mktemp -d)
 trap 'rm -rf "$work"' EXIT

@@ -10,11 +10,11 @@
 # and of the cells. It looks up each identity that is named and writes the same cells; its values are texts and numbers, it
 # has no trees to copy, and it keeps no identities in order. Its time is that of the loop over the operations alone, without
 # the cycle collector of Python.
-# Usage: bench/operations.sh [PROGRAM [N]], where PROGRAM is the built crate operation_steps: crates/operation_steps/out/operation_steps after `rt run`
+# Usage: bench/operations.sh [PROGRAM [N]], where PROGRAM is the built crate bench_op: crates/bench_op/out/bench_op after `rt run`
 # there, where it is not given; and N is 10000.
 set -eu
 top=$(cd "$(dirname "$0")/.." && pwd)
-program=$(readlink -f "${1:-$top/crates/operation_steps/out/operation_steps}")
+program=$(readlink -f "${1:-$top/crates/bench_op/out/bench_op}")
 [ -x "$program" ] || { echo "usage: bench/operations.sh [PROGRAM [N]]: $program is no program"; exit 2; }
 python3 - "$program" "${2:-10000}" <<'PY'
 import gc, os, resource, subprocess, sys, time

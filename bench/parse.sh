@@ -3,7 +3,7 @@
 # subset (of the `src.zip` of a JDK, of `*-sources.jar`, and single files below /usr), beside the time that javac's parser
 # takes for the same files in one run; and then a megabyte, and half of one, of one thing after the other: the ratio of
 # both times, about 2 where the time is linear. Without javac, or without such sources, their part is left out.
-# Usage: bench/parse.sh PROGRAM, where PROGRAM is the built crate parse_count: crates/parse_count/out/parse_count after
+# Usage: bench/parse.sh PROGRAM, where PROGRAM is the built crate bench_parse: crates/bench_parse/out/bench_parse after
 # `rt run` there.
 set -eu
 program=$(readlink -f "$1")

@@ -6,11 +6,11 @@
 # Each time is the least of 5 runs of the whole process; of a step that works on a filled table the time of filling it
 # (and for `set` that of reading the names back) is taken off. A time in proportion to N has the ratio 10; one that does
 # not grow with the base has the ratio 1.
-# Usage: bench/table.sh [PROGRAM [N]], where PROGRAM is the built crate table_steps: crates/table_steps/out/table_steps after `rt run`
+# Usage: bench/table.sh [PROGRAM [N]], where PROGRAM is the built crate bench_table: crates/bench_table/out/bench_table after `rt run`
 # there, where it is not given; and N is 10000.
 set -eu
 top=$(cd "$(dirname "$0")/.." && pwd)
-program=$(readlink -f "${1:-$top/crates/table_steps/out/table_steps}")
+program=$(readlink -f "${1:-$top/crates/bench_table/out/bench_table}")
 [ -x "$program" ] || { echo "usage: bench/table.sh [PROGRAM [N]]: $program is no program"; exit 2; }
 python3 - "$program" "${2:-10000}" <<'PY'
 import os, subprocess, sys, time

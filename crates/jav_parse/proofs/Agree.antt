@@ -4,10 +4,10 @@ use Rattle.std.proofs.lemmas.Bool.Decides.{nat_tests}
 use Rattle.std.proofs.lemmas.List.{length-append}
 use Rattle.mol_base.specs.Token.{Token}
 use Rattle.jav_tree.specs.Tokens.{start_of}
-use Rattle.jav_cursor.specs.declared.sort.Sort.{Sort}
-use Rattle.jav_cursor.specs.declared.sort.Sort.TheVariants.{Comment}
-use Rattle.jav_cursor.specs.Reading.{Outcome, Parser, and_then, ◌>>=◌, pure, refuse, sort, peek, place, take_token, expect, when_next, comments}
-use Rattle.jav_cursor.specs.Sorts.{same_sort}
+use Rattle.jav_parse_cursor.specs.declared.sort.Sort.{Sort}
+use Rattle.jav_parse_cursor.specs.declared.sort.Sort.TheVariants.{Comment}
+use Rattle.jav_parse_cursor.specs.Reading.{Outcome, Parser, and_then, ◌>>=◌, pure, refuse, sort, peek, place, take_token, expect, when_next, comments}
+use Rattle.jav_parse_cursor.specs.Sorts.{same_sort}
 use Rattle.jav_parse.proofs.Lookahead.{Keeps, Local}
 
 -- what two readings read is alike, and no greater than the tokens that it took, of m; and they leave the same tokens

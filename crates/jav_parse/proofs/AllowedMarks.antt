@@ -7,8 +7,8 @@ use Rattle.std.specs.Str.{bytes_eq}
 use Prim.Native.String.{String}
 use Rattle.mol_base.specs.Among.{among}
 use Rattle.mol_base.specs.Modifiers.{times, AllowedWords, ClassWords, FieldWords, MethodWords, AbstractWords, ConstructorWords, class_words, field_words, method_words, abstract_words, constructor_words}
-use Rattle.jav_rules.specs.declared.words.Words.{Words as Modifiers}
-use Rattle.jav_rules.specs.WordRules as rules
+use Rattle.jav_parse_unit.specs.declared.words.Words.{Words as Modifiers}
+use Rattle.jav_parse_unit.specs.WordRules as rules
 use Rattle.jav_parse.proofs.CompleteWords.{MayBeRead, marks_of}
 use Rattle.jav_parse.proofs.Modifiers.{Within, bits, any_counts}
 

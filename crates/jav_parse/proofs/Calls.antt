@@ -3,13 +3,13 @@ use Rattle.std.proofs.Common.{◌≡◌, ◌⊎◌, inl, inr, ℕ, ◌<◌, ◌�
 use Rattle.std.proofs.lemmas.List.{append-nil}
 use Rattle.std.specs.Global.{Global}
 use Rattle.mol_base.specs.Token.{Token}
-use Rattle.jav_rules.specs.BadToken.{Language, most_items, most_height, IsFault}
-use Rattle.jav_rules.specs.declared.fault.ParseFault.{ParseFault}
-use Rattle.jav_rules.specs.declared.fault.ParseFault.TheVariants as fault
-use Rattle.jav_cursor.specs.declared.limits.Limits.{Limits}
-use Rattle.jav_rules.specs.declared.reading.Language.{Language as Asked}
-use Rattle.jav_cursor.specs.Reading.{Outcome, Parser}
-use Rattle.jav_rules.specs.WholeRules.{limits_for, unread, unread_as, is_whole, Answers}
+use Rattle.jav_parse_unit.specs.BadToken.{Language, most_items, most_height, IsFault}
+use Rattle.jav_parse_unit.specs.declared.fault.ParseFault.{ParseFault}
+use Rattle.jav_parse_unit.specs.declared.fault.ParseFault.TheVariants as fault
+use Rattle.jav_parse_cursor.specs.declared.limits.Limits.{Limits}
+use Rattle.jav_parse_unit.specs.declared.reading.Language.{Language as Asked}
+use Rattle.jav_parse_cursor.specs.Reading.{Outcome, Parser}
+use Rattle.jav_parse_unit.specs.WholeRules.{limits_for, unread, unread_as, is_whole, Answers}
 use Rattle.jav_parse.proofs.Agree.{Agree, Any, Enough}
 use Rattle.jav_parse.proofs.EnoughTypes.{LikeLimits}
 use Rattle.jav_parse.proofs.Lookahead.{Local}

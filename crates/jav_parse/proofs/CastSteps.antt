@@ -4,19 +4,19 @@ use Rattle.mol_base.specs.Token.{Token}
 use Rattle.jav_tree.specs.declared.types.TypeName.{TypeName}
 use Rattle.jav_tree.specs.declared.types.TypeName.TheVariants as ty
 use Rattle.jav_tree.specs.Types.{IsPrimitive, Qualified, primitive, named, Brackets, none, pair, array_of, WholeType, whole, is_primitive}
-use Rattle.jav_cursor.specs.declared.limits.Limits.{Limits}
-use Rattle.jav_expr.specs.declared.primary.Goal.{Goal}
-use Rattle.jav_expr.specs.declared.primary.Goal.TheVariants.{Level, Target}
-use Rattle.jav_cursor.specs.declared.sort.Sort.{Sort}
-use Rattle.jav_cursor.specs.declared.sort.Sort.TheVariants as sort
-use Rattle.jav_cursor.specs.declared.tall.Tall.{Tall}
-use Rattle.jav_expr.specs.ExprRules.{begins_operand, cast, array_cast, primitive_cast, name_closed, opened_name, opened_at, opened, prefixed, operand_by, operand}
-use Rattle.jav_cursor.specs.Nodes as made
-use Rattle.jav_cursor.specs.Nodes.{text_of, array_type}
-use Rattle.jav_cursor.specs.Reading.{Parser, sort as next, take_token}
-use Rattle.jav_cursor.specs.Sorts.{same_sort, sort_of}
-use Rattle.jav_cursor.specs.TypeRules as rule
-use Rattle.jav_cursor.specs.TypeRules.{qualified, brackets}
+use Rattle.jav_parse_cursor.specs.declared.limits.Limits.{Limits}
+use Rattle.jav_parse_expr.specs.declared.primary.Goal.{Goal}
+use Rattle.jav_parse_expr.specs.declared.primary.Goal.TheVariants.{Level, Target}
+use Rattle.jav_parse_cursor.specs.declared.sort.Sort.{Sort}
+use Rattle.jav_parse_cursor.specs.declared.sort.Sort.TheVariants as sort
+use Rattle.jav_parse_cursor.specs.declared.tall.Tall.{Tall}
+use Rattle.jav_parse_expr.specs.ExprRules.{begins_operand, cast, array_cast, primitive_cast, name_closed, opened_name, opened_at, opened, prefixed, operand_by, operand}
+use Rattle.jav_parse_cursor.specs.Nodes as made
+use Rattle.jav_parse_cursor.specs.Nodes.{text_of, array_type}
+use Rattle.jav_parse_cursor.specs.Reading.{Parser, sort as next, take_token}
+use Rattle.jav_parse_cursor.specs.Sorts.{same_sort, sort_of}
+use Rattle.jav_parse_cursor.specs.TypeRules as rule
+use Rattle.jav_parse_cursor.specs.TypeRules.{qualified, brackets}
 use Rattle.jav_parse.proofs.CompleteTypes.{qualified_read, qualified_begins, text_read, brackets_read, array_built}
 use Rattle.jav_parse.proofs.ReadingSteps.{IsNot, is_not, expect_goes, same_self, le_false, eq_false, sort_at, tokens_append}
 use Rattle.jav_parse.proofs.SortsOfTokens.{is_prefix_sort, primitive_sort, left_sort, right_sort}

@@ -1,14 +1,14 @@
 -- Members and indexes after a part: how reading goes on by them, and by which it went on.
 use Rattle.std.proofs.Common.{◌≡◌, ℕ, zero, suc, ◌<◌, ◌≤◌, Bool, true, false, ◌||◌, List, ◌∷◌, nat_le, Ok, refl, sym, ap, ◌∙◌, subst, if◌then◌else◌, arith}
 use Rattle.mol_base.specs.Token.{Token}
-use Rattle.jav_cursor.specs.declared.limits.Limits.{Limits}
-use Rattle.jav_expr.specs.declared.primary.Rooms.{Rooms}
-use Rattle.jav_cursor.specs.declared.sort.Sort.TheVariants as sort
-use Rattle.jav_cursor.specs.declared.tall.Tall.{Tall}
-use Rattle.jav_cursor.specs.Nodes.{is_array}
-use Rattle.jav_expr.specs.PrimaryRules.{Inside, is_link, member_name, member_named, member, index, item, link, chain}
-use Rattle.jav_cursor.specs.Reading.{◌>>=◌, ◌>>◌, pure, refuse, sort as next, take_token, expect}
-use Rattle.jav_cursor.specs.Sorts.{sort_of}
+use Rattle.jav_parse_cursor.specs.declared.limits.Limits.{Limits}
+use Rattle.jav_parse_expr.specs.declared.primary.Rooms.{Rooms}
+use Rattle.jav_parse_cursor.specs.declared.sort.Sort.TheVariants as sort
+use Rattle.jav_parse_cursor.specs.declared.tall.Tall.{Tall}
+use Rattle.jav_parse_cursor.specs.Nodes.{is_array}
+use Rattle.jav_parse_expr.specs.PrimaryRules.{Inside, is_link, member_name, member_named, member, index, item, link, chain}
+use Rattle.jav_parse_cursor.specs.Reading.{◌>>=◌, ◌>>◌, pure, refuse, sort as next, take_token, expect}
+use Rattle.jav_parse_cursor.specs.Sorts.{sort_of}
 use Rattle.jav_parse.proofs.Outcomes.{Steps, steps, expected, take_ok, not_refused, le_false_is}
 
 or_left : (a b : Bool) → (a || b) ≡ false → a ≡ false

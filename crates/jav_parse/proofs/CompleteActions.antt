@@ -11,20 +11,20 @@ use Rattle.jav_tree.specs.Expressions as tree
 use Rattle.jav_tree.specs.Expressions.{Expression, Primary, ArrayCreation, expr_at}
 use Rattle.jav_tree.specs.Statements.{MayBeStatement, is_statement_expression}
 use Rattle.jav_tree.proofs.StatementExpressions as nodes
-use Rattle.jav_cursor.specs.declared.limits.Limits.{Limits}
-use Rattle.jav_expr.specs.declared.primary.Goal.TheVariants as goals
-use Rattle.jav_cursor.specs.declared.sort.Sort.{Sort}
-use Rattle.jav_cursor.specs.declared.sort.Sort.TheVariants as sort
-use Rattle.jav_cursor.specs.declared.tall.Shape.{Shape}
-use Rattle.jav_cursor.specs.declared.tall.Shape.TheVariants.{Target, Invocation, Loose}
-use Rattle.jav_cursor.specs.declared.tall.Tall.{Tall}
-use Rattle.jav_cursor.specs.Nodes as made
-use Rattle.jav_cursor.specs.Nodes.{is_target, is_invocation}
-use Rattle.jav_expr.specs.PrimaryRules.{acting, part}
-use Rattle.jav_expr.specs.ActionRules.{ending, acts, action}
-use Rattle.jav_expr.specs.ExprRules.{expr, inside, is_assignment, step_after, assign_to, assignment, prefixed}
-use Rattle.jav_cursor.specs.Reading.{Outcome, sort as next}
-use Rattle.jav_cursor.specs.Sorts.{sort_of, same_sort}
+use Rattle.jav_parse_cursor.specs.declared.limits.Limits.{Limits}
+use Rattle.jav_parse_expr.specs.declared.primary.Goal.TheVariants as goals
+use Rattle.jav_parse_cursor.specs.declared.sort.Sort.{Sort}
+use Rattle.jav_parse_cursor.specs.declared.sort.Sort.TheVariants as sort
+use Rattle.jav_parse_cursor.specs.declared.tall.Shape.{Shape}
+use Rattle.jav_parse_cursor.specs.declared.tall.Shape.TheVariants.{Target, Invocation, Loose}
+use Rattle.jav_parse_cursor.specs.declared.tall.Tall.{Tall}
+use Rattle.jav_parse_cursor.specs.Nodes as made
+use Rattle.jav_parse_cursor.specs.Nodes.{is_target, is_invocation}
+use Rattle.jav_parse_expr.specs.PrimaryRules.{acting, part}
+use Rattle.jav_parse_expr.specs.ActionRules.{ending, acts, action}
+use Rattle.jav_parse_expr.specs.ExprRules.{expr, inside, is_assignment, step_after, assign_to, assignment, prefixed}
+use Rattle.jav_parse_cursor.specs.Reading.{Outcome, sort as next}
+use Rattle.jav_parse_cursor.specs.Sorts.{sort_of, same_sort}
 use Rattle.jav_parse.proofs.FirstTokens.{Begins, primary_begins, part_begins}
 use Rattle.jav_parse.proofs.PartSteps.{sized, room, near_acting, part_ends}
 use Rattle.jav_parse.proofs.ReadingSteps.{IsNot, binds, Ends, ends_not, ends_at, no_link, same_self, sort_at, le_false, eq_false, BeginsPart, take_goes, tokens_append}

@@ -7,16 +7,16 @@ use Rattle.jav_tree.specs.declared.stmt.StmtNode.{StmtNode}
 use Rattle.jav_tree.specs.Statements.{commented, fronted, tailed}
 use Rattle.jav_tree.specs.Tokens.{IsSymbol, Comments, start_of}
 use Rattle.jav_tree.specs.Tokens as comment
-use Rattle.jav_cursor.specs.declared.limits.Limits.{Limits}
-use Rattle.jav_cursor.specs.declared.sort.Sort.TheVariants as sort
-use Rattle.jav_stmt.specs.declared.stmt.Place.TheVariants.{Item}
-use Rattle.jav_stmt.specs.declared.stmt.Several.{Several}
-use Rattle.jav_stmt.specs.declared.stmt_tall.TallBlock.{TallBlock}
-use Rattle.jav_stmt.specs.declared.stmt_tall.TallStmt.{TallStmt}
-use Rattle.jav_cursor.specs.Reading.{Parser, Outcome, ◌>>=◌, ◌>>◌, pure, take_token, comments, when_next, sort as next}
-use Rattle.jav_cursor.specs.Sorts.{sort_of, same_sort}
-use Rattle.jav_stmt.specs.StmtRules as rules
-use Rattle.jav_stmt.specs.StmtRules.{stmt, closed, nothing, added_to, next_item, statements, block, from_super, super_first, constructor_block}
+use Rattle.jav_parse_cursor.specs.declared.limits.Limits.{Limits}
+use Rattle.jav_parse_cursor.specs.declared.sort.Sort.TheVariants as sort
+use Rattle.jav_parse_stmt.specs.declared.stmt.Place.TheVariants.{Item}
+use Rattle.jav_parse_stmt.specs.declared.stmt.Several.{Several}
+use Rattle.jav_parse_stmt.specs.declared.stmt_tall.TallBlock.{TallBlock}
+use Rattle.jav_parse_stmt.specs.declared.stmt_tall.TallStmt.{TallStmt}
+use Rattle.jav_parse_cursor.specs.Reading.{Parser, Outcome, ◌>>=◌, ◌>>◌, pure, take_token, comments, when_next, sort as next}
+use Rattle.jav_parse_cursor.specs.Sorts.{sort_of, same_sort}
+use Rattle.jav_parse_stmt.specs.StmtRules as rules
+use Rattle.jav_parse_stmt.specs.StmtRules.{stmt, closed, nothing, added_to, next_item, statements, block, from_super, super_first, constructor_block}
 use Rattle.jav_parse.proofs.CompleteBranches.{taken_read}
 use Rattle.jav_parse.proofs.CompleteSingles.{fronted_none, tailed_none}
 use Rattle.jav_parse.proofs.CompleteLocals.{comments_read}

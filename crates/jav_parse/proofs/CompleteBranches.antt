@@ -11,19 +11,19 @@ use Rattle.jav_tree.specs.Blocks.{block_of}
 use Rattle.jav_tree.specs.Expressions.{Expression}
 use Rattle.jav_tree.specs.Tokens.{IsSymbol, IsKeyword, Comments, start_of}
 use Rattle.jav_tree.specs.Tokens as comment
-use Rattle.jav_stmt.specs.declared.flow.TallElse.{TallElse}
-use Rattle.jav_cursor.specs.declared.limits.Limits.{Limits}
-use Rattle.jav_cursor.specs.declared.sort.Sort.{Sort}
-use Rattle.jav_cursor.specs.declared.sort.Sort.TheVariants as sort
-use Rattle.jav_stmt.specs.declared.stmt.Place.{Place}
-use Rattle.jav_stmt.specs.declared.stmt.Place.TheVariants.{Item, Branch, Plain, Chain}
-use Rattle.jav_stmt.specs.declared.stmt_tall.TallBlock.{TallBlock}
-use Rattle.jav_stmt.specs.declared.stmt_tall.TallStmt.{TallStmt}
-use Rattle.jav_cursor.specs.declared.tall.Tall.{Tall}
-use Rattle.jav_cursor.specs.Reading.{Parser, comments, sort as next}
-use Rattle.jav_cursor.specs.Sorts.{sort_of, same_sort}
-use Rattle.jav_stmt.specs.StmtRules as rules
-use Rattle.jav_stmt.specs.StmtRules.{stmt, statement_at, condition, block, wrapped, chained, second_branch, short_if, long_if, chosen, if_stmt}
+use Rattle.jav_parse_stmt.specs.declared.flow.TallElse.{TallElse}
+use Rattle.jav_parse_cursor.specs.declared.limits.Limits.{Limits}
+use Rattle.jav_parse_cursor.specs.declared.sort.Sort.{Sort}
+use Rattle.jav_parse_cursor.specs.declared.sort.Sort.TheVariants as sort
+use Rattle.jav_parse_stmt.specs.declared.stmt.Place.{Place}
+use Rattle.jav_parse_stmt.specs.declared.stmt.Place.TheVariants.{Item, Branch, Plain, Chain}
+use Rattle.jav_parse_stmt.specs.declared.stmt_tall.TallBlock.{TallBlock}
+use Rattle.jav_parse_stmt.specs.declared.stmt_tall.TallStmt.{TallStmt}
+use Rattle.jav_parse_cursor.specs.declared.tall.Tall.{Tall}
+use Rattle.jav_parse_cursor.specs.Reading.{Parser, comments, sort as next}
+use Rattle.jav_parse_cursor.specs.Sorts.{sort_of, same_sort}
+use Rattle.jav_parse_stmt.specs.StmtRules as rules
+use Rattle.jav_parse_stmt.specs.StmtRules.{stmt, statement_at, condition, block, wrapped, chained, second_branch, short_if, long_if, chosen, if_stmt}
 use Rattle.jav_parse.proofs.CompleteLocals.{comments_read}
 use Rattle.jav_parse.proofs.CompleteLoops.{condition_goes, close_ends, stood_is}
 use Rattle.jav_parse.proofs.CompleteSimple.{expression_read}
@@ -31,7 +31,7 @@ use Rattle.jav_parse.proofs.PartSteps.{sized}
 use Rattle.jav_parse.proofs.ReadingSteps.{IsNot, is_not, same_self, sort_at, take_goes, le_false}
 use Rattle.jav_parse.proofs.SortsOfTokens.{open_sort, close_sort, keyword_sort, comment_sort}
 use Rattle.jav_parse.proofs.StatementReadings.{alone, stood, block_stood, else_stood, left_of, taken, ChoiceRead, OtherRead, BranchRead}
-use Rattle.jav_stmt.proofs.AtHeight.{stmt_is}
+use Rattle.jav_parse_stmt.proofs.AtHeight.{stmt_is}
 use Rattle.jav_parse.proofs.WholeLaws.{WholeLaws}
 
 -- a token of another sort follows comments, or a comment is first

@@ -2,10 +2,10 @@
 use Rattle.std.proofs.Common.{◌≡◌, ℕ, zero, suc, ◌<◌, false, List, [], ◌∷◌, ◌++◌, length, Ok, refl, sym, ap, ◌∙◌, append_assoc, append-nil, arith}
 use Rattle.mol_base.specs.Token.{Token}
 use Rattle.jav_tree.specs.Tokens.{Comments, none, comment}
-use Rattle.jav_cursor.specs.declared.sort.Sort.{Sort}
-use Rattle.jav_cursor.specs.declared.sort.Sort.TheVariants as sort
-use Rattle.jav_cursor.specs.Reading.{comments, take_token, sort as next}
-use Rattle.jav_cursor.specs.Sorts.{sort_of, same_sort}
+use Rattle.jav_parse_cursor.specs.declared.sort.Sort.{Sort}
+use Rattle.jav_parse_cursor.specs.declared.sort.Sort.TheVariants as sort
+use Rattle.jav_parse_cursor.specs.Reading.{comments, take_token, sort as next}
+use Rattle.jav_parse_cursor.specs.Sorts.{sort_of, same_sort}
 use Rattle.jav_parse.proofs.ReadingSteps.{IsNot, is_not, same_self}
 use Rattle.jav_parse.proofs.SortsOfTokens.{comment_sort}
 

@@ -11,17 +11,17 @@ use Rattle.jav_tree.specs.Statements.{MaybeFinal}
 use Rattle.jav_tree.specs.Statements as grammar
 use Rattle.jav_tree.specs.Tokens.{start_of}
 use Rattle.jav_tree.specs.Types.{WholeType}
-use Rattle.jav_stmt.specs.declared.flow.HeaderPart.TheVariants.{Start}
-use Rattle.jav_cursor.specs.declared.limits.Limits.{Limits}
-use Rattle.jav_cursor.specs.declared.sort.Sort.{Sort}
-use Rattle.jav_cursor.specs.declared.sort.Sort.TheVariants as sort
-use Rattle.jav_stmt.specs.declared.stmt.Place.{Place}
-use Rattle.jav_stmt.specs.declared.stmt_tall.TallStmt.{TallStmt}
-use Rattle.jav_stmt.specs.LocalRules.{no_variables, declarators}
-use Rattle.jav_cursor.specs.Reading.{Parser, sort as next}
-use Rattle.jav_cursor.specs.Sorts.{sort_of, same_sort}
-use Rattle.jav_stmt.specs.StmtRules as rules
-use Rattle.jav_stmt.specs.StmtRules.{stmt, closed, header}
+use Rattle.jav_parse_stmt.specs.declared.flow.HeaderPart.TheVariants.{Start}
+use Rattle.jav_parse_cursor.specs.declared.limits.Limits.{Limits}
+use Rattle.jav_parse_cursor.specs.declared.sort.Sort.{Sort}
+use Rattle.jav_parse_cursor.specs.declared.sort.Sort.TheVariants as sort
+use Rattle.jav_parse_stmt.specs.declared.stmt.Place.{Place}
+use Rattle.jav_parse_stmt.specs.declared.stmt_tall.TallStmt.{TallStmt}
+use Rattle.jav_parse_stmt.specs.LocalRules.{no_variables, declarators}
+use Rattle.jav_parse_cursor.specs.Reading.{Parser, sort as next}
+use Rattle.jav_parse_cursor.specs.Sorts.{sort_of, same_sort}
+use Rattle.jav_parse_stmt.specs.StmtRules as rules
+use Rattle.jav_parse_stmt.specs.StmtRules.{stmt, closed, header}
 use Rattle.jav_parse.proofs.CompleteHeaders.{type_begins, local_of_goes, header_let_goes, header_declares, item_declares}
 use Rattle.jav_parse.proofs.CompleteLocals.{VariablesRead, AfterVariables, added, variable, declared_are, variables_read}
 use Rattle.jav_parse.proofs.CompletePlain.{semi_ends, start_same}

@@ -12,12 +12,12 @@ use Rattle.jav_tree.specs.Members as tree
 use Rattle.jav_tree.specs.Members.{Declared, Result}
 use Rattle.jav_tree.specs.Words as written
 use Rattle.jav_tree.specs.Words.{Words}
-use Rattle.jav_cursor.specs.declared.limits.Limits.{Limits}
-use Rattle.jav_cursor.specs.declared.sort.Sort.{Sort}
-use Rattle.jav_cursor.specs.declared.sort.Sort.TheVariants as sort
-use Rattle.jav_rules.specs.MemberRules.{declared}
-use Rattle.jav_cursor.specs.Reading.{sort as next}
-use Rattle.jav_cursor.specs.Sorts.{same_sort, sort_of, looked_up, keywords}
+use Rattle.jav_parse_cursor.specs.declared.limits.Limits.{Limits}
+use Rattle.jav_parse_cursor.specs.declared.sort.Sort.{Sort}
+use Rattle.jav_parse_cursor.specs.declared.sort.Sort.TheVariants as sort
+use Rattle.jav_parse_unit.specs.MemberRules.{declared}
+use Rattle.jav_parse_cursor.specs.Reading.{sort as next}
+use Rattle.jav_parse_cursor.specs.Sorts.{same_sort, sort_of, looked_up, keywords}
 use Rattle.jav_parse.proofs.CompleteMembers.{field_read, method_read, abstract_read, constructor_read, behind, variables_apart}
 use Rattle.jav_parse.proofs.CompleteParameters.{Short, type_not}
 use Rattle.jav_parse.proofs.ReadingSteps.{IsNot, is_not}

@@ -8,16 +8,16 @@ use Rattle.jav_tree.specs.declared.stmt.StmtNode.{StmtNode}
 use Rattle.jav_tree.specs.Blocks.{block_of}
 use Rattle.jav_tree.specs.Statements.{commented, stmt_at, fronted, tailed}
 use Rattle.jav_tree.specs.Tokens.{Comments, start_of}
-use Rattle.jav_cursor.specs.declared.limits.Limits.{Limits}
-use Rattle.jav_cursor.specs.declared.sort.Sort.TheVariants as sort
-use Rattle.jav_stmt.specs.declared.stmt.Place.{Place}
-use Rattle.jav_stmt.specs.declared.stmt.Place.TheVariants.{Branch, Plain, Chain}
-use Rattle.jav_stmt.specs.declared.stmt_tall.TallBlock.{TallBlock}
-use Rattle.jav_stmt.specs.declared.stmt_tall.TallStmt.{TallStmt}
-use Rattle.jav_cursor.specs.Reading.{Parser, Outcome}
-use Rattle.jav_cursor.specs.Sorts.{same_sort}
-use Rattle.jav_stmt.specs.StmtRules as rules
-use Rattle.jav_stmt.specs.StmtRules.{stmt, block, wrapped, chained, second_branch}
+use Rattle.jav_parse_cursor.specs.declared.limits.Limits.{Limits}
+use Rattle.jav_parse_cursor.specs.declared.sort.Sort.TheVariants as sort
+use Rattle.jav_parse_stmt.specs.declared.stmt.Place.{Place}
+use Rattle.jav_parse_stmt.specs.declared.stmt.Place.TheVariants.{Branch, Plain, Chain}
+use Rattle.jav_parse_stmt.specs.declared.stmt_tall.TallBlock.{TallBlock}
+use Rattle.jav_parse_stmt.specs.declared.stmt_tall.TallStmt.{TallStmt}
+use Rattle.jav_parse_cursor.specs.Reading.{Parser, Outcome}
+use Rattle.jav_parse_cursor.specs.Sorts.{same_sort}
+use Rattle.jav_parse_stmt.specs.StmtRules as rules
+use Rattle.jav_parse_stmt.specs.StmtRules.{stmt, block, wrapped, chained, second_branch}
 use Rattle.jav_parse.proofs.CompleteBranches.{comments_not, branch_block, branch_one, other_if, other_branch, stmt_if, stmt_other}
 use Rattle.jav_parse.proofs.CompleteLeads.{is_not_at}
 use Rattle.jav_parse.proofs.CompleteLocals.{comments_read}

@@ -4,11 +4,11 @@ use Rattle.mol_base.specs.Token.{Token}
 use Rattle.jav_tree.specs.declared.expr.Expr.{Expr}
 use Rattle.jav_tree.specs.Expressions as grammar
 use Rattle.jav_tree.specs.Expressions.{Expression, Primary, BeforeDot, primary_before_dot, array_before_dot, ArrayCreation, Sizes, last_size, more_sizes, Arguments, no_arguments, some_arguments, Listed, last_listed, more_listed, Init, value, braces, Items, no_items, some_items, items_comma, Inits, last_item, more_items}
-use Rattle.jav_cursor.specs.declared.limits.Limits.{Limits}
-use Rattle.jav_cursor.specs.declared.tall.Shape.{Shape}
-use Rattle.jav_cursor.specs.declared.tall.Shape.TheVariants.{Target, Invocation, Atom, Array}
-use Rattle.jav_cursor.specs.Nodes.{is_array}
-use Rattle.jav_cursor.specs.Reading.{sort as next}
+use Rattle.jav_parse_cursor.specs.declared.limits.Limits.{Limits}
+use Rattle.jav_parse_cursor.specs.declared.tall.Shape.{Shape}
+use Rattle.jav_parse_cursor.specs.declared.tall.Shape.TheVariants.{Target, Invocation, Atom, Array}
+use Rattle.jav_parse_cursor.specs.Nodes.{is_array}
+use Rattle.jav_parse_cursor.specs.Reading.{sort as next}
 use Rattle.jav_parse.proofs.CompleteItems.{value_whole, braces_whole, no_items_whole, some_items_whole, items_comma_whole, last_item_whole, more_items_whole}
 use Rattle.jav_parse.proofs.CompleteLists.{no_arguments_whole, some_arguments_whole, last_listed_whole, more_listed_whole, last_size_whole, more_sizes_whole, sized_whole, filled_whole}
 use Rattle.jav_parse.proofs.CompleteOperators.{part_whole, step_after_whole, prefix_whole, step_before_whole, cast_whole, operand_whole, binary_whole, instance_whole, assign_whole, cond_whole}

@@ -9,21 +9,21 @@ use Rattle.jav_tree.specs.Statements as grammar
 use Rattle.jav_tree.specs.Tokens.{start_of}
 use Rattle.jav_tree.specs.Types as types
 use Rattle.jav_tree.specs.Types.{BaseType, Brackets, WholeType}
-use Rattle.jav_expr.specs.declared.action.Lead.TheVariants.{Declaration}
-use Rattle.jav_stmt.specs.declared.flow.HeaderPart.TheVariants.{Start, Each}
-use Rattle.jav_cursor.specs.declared.limits.Limits.{Limits}
-use Rattle.jav_stmt.specs.declared.local.VariableList.{VariableList}
-use Rattle.jav_cursor.specs.declared.sort.Sort.{Sort}
-use Rattle.jav_cursor.specs.declared.sort.Sort.TheVariants as sort
-use Rattle.jav_stmt.specs.declared.stmt.Place.{Place}
-use Rattle.jav_stmt.specs.declared.stmt_tall.TallStmt.{TallStmt}
-use Rattle.jav_expr.specs.ActionRules.{type_or_part}
-use Rattle.jav_stmt.specs.LocalRules.{no_variables, declarators, variables, with_variable, further_variables}
-use Rattle.jav_cursor.specs.Reading.{Parser, ◌>>=◌, sort as next}
-use Rattle.jav_cursor.specs.Sorts.{sort_of, same_sort}
-use Rattle.jav_stmt.specs.StmtRules as rules
-use Rattle.jav_stmt.specs.StmtRules.{closed, local, local_of, named, header, header_by, header_named, header_of, header_let, header_led, doing, for_test, updates}
-use Rattle.jav_cursor.specs.TypeRules.{whole_type}
+use Rattle.jav_parse_expr.specs.declared.action.Lead.TheVariants.{Declaration}
+use Rattle.jav_parse_stmt.specs.declared.flow.HeaderPart.TheVariants.{Start, Each}
+use Rattle.jav_parse_cursor.specs.declared.limits.Limits.{Limits}
+use Rattle.jav_parse_stmt.specs.declared.local.VariableList.{VariableList}
+use Rattle.jav_parse_cursor.specs.declared.sort.Sort.{Sort}
+use Rattle.jav_parse_cursor.specs.declared.sort.Sort.TheVariants as sort
+use Rattle.jav_parse_stmt.specs.declared.stmt.Place.{Place}
+use Rattle.jav_parse_stmt.specs.declared.stmt_tall.TallStmt.{TallStmt}
+use Rattle.jav_parse_expr.specs.ActionRules.{type_or_part}
+use Rattle.jav_parse_stmt.specs.LocalRules.{no_variables, declarators, variables, with_variable, further_variables}
+use Rattle.jav_parse_cursor.specs.Reading.{Parser, ◌>>=◌, sort as next}
+use Rattle.jav_parse_cursor.specs.Sorts.{sort_of, same_sort}
+use Rattle.jav_parse_stmt.specs.StmtRules as rules
+use Rattle.jav_parse_stmt.specs.StmtRules.{closed, local, local_of, named, header, header_by, header_named, header_of, header_let, header_led, doing, for_test, updates}
+use Rattle.jav_parse_cursor.specs.TypeRules.{whole_type}
 use Rattle.jav_parse.proofs.CompleteLeads.{declared_lead, is_not_at}
 use Rattle.jav_parse.proofs.CompletePlain.{item_is}
 use Rattle.jav_parse.proofs.CompleteTypes.{whole_read, qualified_begins}

@@ -5,24 +5,24 @@ use Rattle.jav_tree.specs.declared.expr.Expr.{Expr}
 use Rattle.jav_tree.specs.declared.expr.ExprNode.TheVariants as node
 use Rattle.jav_tree.specs.Expressions.{expr_at}
 use Rattle.jav_tree.specs.Tokens.{IsSymbol, start_of}
-use Rattle.jav_cursor.specs.declared.limits.Limits.{Limits}
-use Rattle.jav_expr.specs.declared.primary.Goal.TheVariants.{Level, Init}
-use Rattle.jav_cursor.specs.declared.sort.Sort.TheVariants as sort
-use Rattle.jav_cursor.specs.declared.tall.Shape.TheVariants.{Loose}
-use Rattle.jav_cursor.specs.declared.tall.Listed.{Listed}
-use Rattle.jav_expr.specs.ExprRules as rule
-use Rattle.jav_expr.specs.ExprRules.{expr}
-use Rattle.jav_cursor.specs.Nodes as made
-use Rattle.jav_expr.specs.PrimaryRules.{items, further_items}
-use Rattle.jav_cursor.specs.Reading.{and_then, sort as next}
-use Rattle.jav_cursor.specs.Sorts.{same_sort, sort_of}
+use Rattle.jav_parse_cursor.specs.declared.limits.Limits.{Limits}
+use Rattle.jav_parse_expr.specs.declared.primary.Goal.TheVariants.{Level, Init}
+use Rattle.jav_parse_cursor.specs.declared.sort.Sort.TheVariants as sort
+use Rattle.jav_parse_cursor.specs.declared.tall.Shape.TheVariants.{Loose}
+use Rattle.jav_parse_cursor.specs.declared.tall.Listed.{Listed}
+use Rattle.jav_parse_expr.specs.ExprRules as rule
+use Rattle.jav_parse_expr.specs.ExprRules.{expr}
+use Rattle.jav_parse_cursor.specs.Nodes as made
+use Rattle.jav_parse_expr.specs.PrimaryRules.{items, further_items}
+use Rattle.jav_parse_cursor.specs.Reading.{and_then, sort as next}
+use Rattle.jav_parse_cursor.specs.Sorts.{same_sort, sort_of}
 use Rattle.jav_parse.proofs.CompleteLists.{ok_listed, joined_more}
 use Rattle.jav_parse.proofs.FirstTokens.{begins_not}
 use Rattle.jav_parse.proofs.ListSteps.{joined, first_item, item_goes, last_comma, items_end, no_items_read, items_read}
 use Rattle.jav_parse.proofs.PartSteps.{sized}
 use Rattle.jav_parse.proofs.ReadingSteps.{tokens_append, IsNot, is_not, Ends, ends_at, sort_at}
 use Rattle.jav_parse.proofs.SortsOfTokens.{begin_sort, finish_sort, comma_sort}
-use Rattle.jav_expr.proofs.AtHeight.{expr_is}
+use Rattle.jav_parse_expr.proofs.AtHeight.{expr_is}
 use Rattle.jav_parse.proofs.WholeReadings.{Short, ExprRead, InitRead, Apart, ItemsRead, InitsRead, whole}
 
 module _ (l : Limits) where

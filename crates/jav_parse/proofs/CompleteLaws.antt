@@ -4,7 +4,7 @@ use Rattle.mol_base.specs.Token.{Token}
 use Rattle.jav_tree.specs.declared.expr.Expr.{Expr}
 use Rattle.jav_tree.specs.Expressions as grammar
 use Rattle.jav_tree.specs.Expressions.{Primary}
-use Rattle.jav_cursor.specs.declared.limits.Limits.{Limits}
+use Rattle.jav_parse_cursor.specs.declared.limits.Limits.{Limits}
 use Rattle.jav_parse.proofs.CompleteExpressions as mine
 use Rattle.jav_parse.proofs.CompleteExpressions.{expression_read, primary_read, init_read, arguments_read}
 use Rattle.jav_parse.proofs.WholeLaws as laws

@@ -6,21 +6,21 @@ use Rattle.jav_tree.specs.declared.types.TypeName.{TypeName}
 use Rattle.jav_tree.specs.declared.types.TypeName.TheVariants as ty
 use Rattle.jav_tree.specs.Types as types
 use Rattle.jav_tree.specs.Types.{BaseType, Brackets, WholeType, array_of}
-use Rattle.jav_expr.specs.declared.action.Lead.TheVariants.{Declaration, Part}
-use Rattle.jav_cursor.specs.declared.limits.Limits.{Limits}
-use Rattle.jav_expr.specs.declared.primary.Goal.TheVariants as goals
-use Rattle.jav_cursor.specs.declared.sort.Sort.{Sort}
-use Rattle.jav_cursor.specs.declared.sort.Sort.TheVariants as sort
-use Rattle.jav_cursor.specs.declared.tall.Tall.{Tall}
-use Rattle.jav_cursor.specs.Nodes as made
-use Rattle.jav_cursor.specs.Nodes.{count_of, text_of, array_type}
-use Rattle.jav_expr.specs.PrimaryRules as rules
-use Rattle.jav_expr.specs.PrimaryRules.{Inside, acting, arguments, index, chain}
-use Rattle.jav_expr.specs.ActionRules.{ending, goes_on, acting_on, indexed_or_array, lead_by, type_or_part}
-use Rattle.jav_expr.specs.ExprRules.{expr, inside}
-use Rattle.jav_cursor.specs.Reading.{◌>>=◌, pure, refuse, expect, sort as next}
-use Rattle.jav_cursor.specs.Sorts.{sort_of, same_sort}
-use Rattle.jav_cursor.specs.TypeRules.{further_names, qualified, brackets}
+use Rattle.jav_parse_expr.specs.declared.action.Lead.TheVariants.{Declaration, Part}
+use Rattle.jav_parse_cursor.specs.declared.limits.Limits.{Limits}
+use Rattle.jav_parse_expr.specs.declared.primary.Goal.TheVariants as goals
+use Rattle.jav_parse_cursor.specs.declared.sort.Sort.{Sort}
+use Rattle.jav_parse_cursor.specs.declared.sort.Sort.TheVariants as sort
+use Rattle.jav_parse_cursor.specs.declared.tall.Tall.{Tall}
+use Rattle.jav_parse_cursor.specs.Nodes as made
+use Rattle.jav_parse_cursor.specs.Nodes.{count_of, text_of, array_type}
+use Rattle.jav_parse_expr.specs.PrimaryRules as rules
+use Rattle.jav_parse_expr.specs.PrimaryRules.{Inside, acting, arguments, index, chain}
+use Rattle.jav_parse_expr.specs.ActionRules.{ending, goes_on, acting_on, indexed_or_array, lead_by, type_or_part}
+use Rattle.jav_parse_expr.specs.ExprRules.{expr, inside}
+use Rattle.jav_parse_cursor.specs.Reading.{◌>>=◌, pure, refuse, expect, sort as next}
+use Rattle.jav_parse_cursor.specs.Sorts.{sort_of, same_sort}
+use Rattle.jav_parse_cursor.specs.TypeRules.{further_names, qualified, brackets}
 use Rattle.jav_parse.proofs.ChainLinks.{chain_ends}
 use Rattle.jav_parse.proofs.CompleteActions.{Acts, by_step, by_part}
 use Rattle.jav_parse.proofs.CompleteActions as actions

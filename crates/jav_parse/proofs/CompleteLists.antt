@@ -7,19 +7,19 @@ use Rattle.jav_tree.specs.declared.expr.ExprNode.TheVariants as node
 use Rattle.jav_tree.specs.Expressions.{expr_at}
 use Rattle.jav_tree.specs.Tokens.{IsSymbol, IsKeyword}
 use Rattle.jav_tree.specs.Types.{BaseType, Brackets, array_of}
-use Rattle.jav_cursor.specs.declared.limits.Limits.{Limits}
-use Rattle.jav_expr.specs.declared.primary.Goal.TheVariants.{Level}
-use Rattle.jav_expr.specs.declared.primary.Rooms.{Rooms}
-use Rattle.jav_cursor.specs.declared.sort.Sort.{Sort}
-use Rattle.jav_cursor.specs.declared.sort.Sort.TheVariants as sort
-use Rattle.jav_cursor.specs.declared.tall.Shape.TheVariants.{Array, Loose}
-use Rattle.jav_cursor.specs.declared.tall.Tall.{Tall}
-use Rattle.jav_cursor.specs.declared.tall.Listed.{Listed}
-use Rattle.jav_expr.specs.ExprRules.{expr, inside}
-use Rattle.jav_cursor.specs.Nodes as made
-use Rattle.jav_expr.specs.PrimaryRules.{arguments, further_arguments, further_sizes, array}
-use Rattle.jav_cursor.specs.Reading.{Outcome, and_then, sort as next}
-use Rattle.jav_cursor.specs.Sorts.{same_sort, sort_of}
+use Rattle.jav_parse_cursor.specs.declared.limits.Limits.{Limits}
+use Rattle.jav_parse_expr.specs.declared.primary.Goal.TheVariants.{Level}
+use Rattle.jav_parse_expr.specs.declared.primary.Rooms.{Rooms}
+use Rattle.jav_parse_cursor.specs.declared.sort.Sort.{Sort}
+use Rattle.jav_parse_cursor.specs.declared.sort.Sort.TheVariants as sort
+use Rattle.jav_parse_cursor.specs.declared.tall.Shape.TheVariants.{Array, Loose}
+use Rattle.jav_parse_cursor.specs.declared.tall.Tall.{Tall}
+use Rattle.jav_parse_cursor.specs.declared.tall.Listed.{Listed}
+use Rattle.jav_parse_expr.specs.ExprRules.{expr, inside}
+use Rattle.jav_parse_cursor.specs.Nodes as made
+use Rattle.jav_parse_expr.specs.PrimaryRules.{arguments, further_arguments, further_sizes, array}
+use Rattle.jav_parse_cursor.specs.Reading.{Outcome, and_then, sort as next}
+use Rattle.jav_parse_cursor.specs.Sorts.{same_sort, sort_of}
 use Rattle.jav_parse.proofs.CompletePrimary.{ok_tall}
 use Rattle.jav_parse.proofs.CompleteTypes.{base_read, brackets_not}
 use Rattle.jav_parse.proofs.FirstTokens.{begins_not}

@@ -6,16 +6,16 @@ use Rattle.jav_tree.specs.declared.stmt.Declarator.{Declarator}
 use Rattle.jav_tree.specs.Tokens.{IsSymbol, IsName, IsComment, Comments}
 use Rattle.jav_tree.specs.Tokens as comment
 use Rattle.jav_tree.specs.Statements as grammar
-use Rattle.jav_cursor.specs.declared.limits.Limits.{Limits}
-use Rattle.jav_stmt.specs.declared.local.Variable.{Variable}
-use Rattle.jav_stmt.specs.declared.local.VariableList.{VariableList}
-use Rattle.jav_expr.specs.declared.primary.Goal.TheVariants as goals
-use Rattle.jav_cursor.specs.declared.sort.Sort.TheVariants as sort
-use Rattle.jav_cursor.specs.declared.tall.Tall.{Tall}
-use Rattle.jav_expr.specs.ExprRules.{expr}
-use Rattle.jav_stmt.specs.LocalRules.{alone, valued, declarators, with_variable, further_variables}
-use Rattle.jav_cursor.specs.Reading.{◌>>=◌, comments, sort as next}
-use Rattle.jav_cursor.specs.Sorts.{sort_of, same_sort}
+use Rattle.jav_parse_cursor.specs.declared.limits.Limits.{Limits}
+use Rattle.jav_parse_stmt.specs.declared.local.Variable.{Variable}
+use Rattle.jav_parse_stmt.specs.declared.local.VariableList.{VariableList}
+use Rattle.jav_parse_expr.specs.declared.primary.Goal.TheVariants as goals
+use Rattle.jav_parse_cursor.specs.declared.sort.Sort.TheVariants as sort
+use Rattle.jav_parse_cursor.specs.declared.tall.Tall.{Tall}
+use Rattle.jav_parse_expr.specs.ExprRules.{expr}
+use Rattle.jav_parse_stmt.specs.LocalRules.{alone, valued, declarators, with_variable, further_variables}
+use Rattle.jav_parse_cursor.specs.Reading.{◌>>=◌, comments, sort as next}
+use Rattle.jav_parse_cursor.specs.Sorts.{sort_of, same_sort}
 use Rattle.jav_parse.proofs.PartSteps.{sized}
 use Rattle.jav_parse.proofs.ReadingSteps.{IsNot, is_not, Ends, ends_at, same_self, eq_false, take_goes, expect_goes}
 use Rattle.jav_parse.proofs.SortsOfTokens.{comment_sort, name_sort, equals_sort, comma_sort}

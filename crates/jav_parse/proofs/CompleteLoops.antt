@@ -15,25 +15,25 @@ use Rattle.jav_tree.specs.Statements.{MaybeFinal, MaybeExpression, Update}
 use Rattle.jav_tree.specs.Statements as grammar
 use Rattle.jav_tree.specs.Tokens.{IsSymbol, IsKeyword, IsName}
 use Rattle.jav_tree.specs.Types.{WholeType}
-use Rattle.jav_stmt.specs.declared.flow.HeaderPart.{HeaderPart}
-use Rattle.jav_stmt.specs.declared.flow.HeaderPart.TheVariants.{Start, Each}
-use Rattle.jav_stmt.specs.declared.flow.Maybe.{Maybe}
-use Rattle.jav_cursor.specs.declared.limits.Limits.{Limits}
-use Rattle.jav_expr.specs.declared.primary.Goal.TheVariants.{Level}
-use Rattle.jav_cursor.specs.declared.sort.Sort.TheVariants as sort
-use Rattle.jav_stmt.specs.declared.stmt.Place.{Place}
-use Rattle.jav_stmt.specs.declared.stmt.Place.TheVariants.{Branch}
-use Rattle.jav_stmt.specs.declared.stmt_tall.TallBlock.{TallBlock}
-use Rattle.jav_stmt.specs.declared.stmt_tall.TallStmt.{TallStmt}
-use Rattle.jav_cursor.specs.declared.tall.Listed.{Listed}
-use Rattle.jav_cursor.specs.declared.tall.Tall.{Tall}
-use Rattle.jav_cursor.specs.Nodes as made
-use Rattle.jav_expr.specs.ActionRules.{actions}
-use Rattle.jav_expr.specs.ExprRules.{expr}
-use Rattle.jav_cursor.specs.Reading.{Parser, Outcome, sort as next}
-use Rattle.jav_cursor.specs.Sorts.{sort_of, same_sort}
-use Rattle.jav_stmt.specs.StmtRules as rules
-use Rattle.jav_stmt.specs.StmtRules.{stmt, condition, header, header_by, for_test, updates, while_stmt, counted_body, counted, each, for_stmt, plain_by}
+use Rattle.jav_parse_stmt.specs.declared.flow.HeaderPart.{HeaderPart}
+use Rattle.jav_parse_stmt.specs.declared.flow.HeaderPart.TheVariants.{Start, Each}
+use Rattle.jav_parse_stmt.specs.declared.flow.Maybe.{Maybe}
+use Rattle.jav_parse_cursor.specs.declared.limits.Limits.{Limits}
+use Rattle.jav_parse_expr.specs.declared.primary.Goal.TheVariants.{Level}
+use Rattle.jav_parse_cursor.specs.declared.sort.Sort.TheVariants as sort
+use Rattle.jav_parse_stmt.specs.declared.stmt.Place.{Place}
+use Rattle.jav_parse_stmt.specs.declared.stmt.Place.TheVariants.{Branch}
+use Rattle.jav_parse_stmt.specs.declared.stmt_tall.TallBlock.{TallBlock}
+use Rattle.jav_parse_stmt.specs.declared.stmt_tall.TallStmt.{TallStmt}
+use Rattle.jav_parse_cursor.specs.declared.tall.Listed.{Listed}
+use Rattle.jav_parse_cursor.specs.declared.tall.Tall.{Tall}
+use Rattle.jav_parse_cursor.specs.Nodes as made
+use Rattle.jav_parse_expr.specs.ActionRules.{actions}
+use Rattle.jav_parse_expr.specs.ExprRules.{expr}
+use Rattle.jav_parse_cursor.specs.Reading.{Parser, Outcome, sort as next}
+use Rattle.jav_parse_cursor.specs.Sorts.{sort_of, same_sort}
+use Rattle.jav_parse_stmt.specs.StmtRules as rules
+use Rattle.jav_parse_stmt.specs.StmtRules.{stmt, condition, header, header_by, for_test, updates, while_stmt, counted_body, counted, each, for_stmt, plain_by}
 use Rattle.jav_parse.proofs.CompleteDeclarations.{declaration_read}
 use Rattle.jav_parse.proofs.CompleteHeaders.{header_declares, header_each}
 use Rattle.jav_parse.proofs.CompletePlain.{semi_ends, by_word}

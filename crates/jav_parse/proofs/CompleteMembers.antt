@@ -19,22 +19,22 @@ use Rattle.jav_tree.specs.Statements.{Variables, BlockOf, ConstructorBlock, fron
 use Rattle.jav_tree.specs.Members as tree
 use Rattle.jav_tree.specs.Members.{Declared, Parameters, Result, MayBeConstructor}
 use Rattle.jav_tree.specs.Words.{Words, FieldWords, MethodWords, AbstractWords, ConstructorWords, in_order, kept_of_method, has}
-use Rattle.jav_cursor.specs.declared.limits.Limits.{Limits}
-use Rattle.jav_stmt.specs.declared.local.VariableList.{VariableList}
-use Rattle.jav_rules.specs.declared.member.Front.{Front}
-use Rattle.jav_cursor.specs.declared.sort.Sort.{Sort}
-use Rattle.jav_cursor.specs.declared.sort.Sort.TheVariants as sort
-use Rattle.jav_stmt.specs.declared.stmt.Place.TheVariants as place
-use Rattle.jav_stmt.specs.declared.stmt_tall.TallBlock.{TallBlock}
-use Rattle.jav_rules.specs.declared.words.Words.{Words as Modifiers}
-use Rattle.jav_stmt.specs.LocalRules.{variables}
-use Rattle.jav_rules.specs.MemberRules.{params, method_block, body_or_semi, method_of, method, constructor_of, constructor, fields_of, fields, one_member, typed, fits_class, named, void_method, member_by, declared}
-use Rattle.jav_cursor.specs.Nodes.{text_of}
-use Rattle.jav_cursor.specs.Reading.{take_token, comments, sort as next}
-use Rattle.jav_cursor.specs.Sorts.{same_sort, sort_of}
-use Rattle.jav_stmt.specs.StmtRules.{stmt, block, constructor_block}
-use Rattle.jav_cursor.specs.TypeRules.{qualified, brackets, type_after, whole_type}
-use Rattle.jav_rules.specs.WordRules as rules
+use Rattle.jav_parse_cursor.specs.declared.limits.Limits.{Limits}
+use Rattle.jav_parse_stmt.specs.declared.local.VariableList.{VariableList}
+use Rattle.jav_parse_unit.specs.declared.member.Front.{Front}
+use Rattle.jav_parse_cursor.specs.declared.sort.Sort.{Sort}
+use Rattle.jav_parse_cursor.specs.declared.sort.Sort.TheVariants as sort
+use Rattle.jav_parse_stmt.specs.declared.stmt.Place.TheVariants as place
+use Rattle.jav_parse_stmt.specs.declared.stmt_tall.TallBlock.{TallBlock}
+use Rattle.jav_parse_unit.specs.declared.words.Words.{Words as Modifiers}
+use Rattle.jav_parse_stmt.specs.LocalRules.{variables}
+use Rattle.jav_parse_unit.specs.MemberRules.{params, method_block, body_or_semi, method_of, method, constructor_of, constructor, fields_of, fields, one_member, typed, fits_class, named, void_method, member_by, declared}
+use Rattle.jav_parse_cursor.specs.Nodes.{text_of}
+use Rattle.jav_parse_cursor.specs.Reading.{take_token, comments, sort as next}
+use Rattle.jav_parse_cursor.specs.Sorts.{same_sort, sort_of}
+use Rattle.jav_parse_stmt.specs.StmtRules.{stmt, block, constructor_block}
+use Rattle.jav_parse_cursor.specs.TypeRules.{qualified, brackets, type_after, whole_type}
+use Rattle.jav_parse_unit.specs.WordRules as rules
 use Rattle.jav_parse.proofs.AllowedMarks.{field_marks, field_may, method_marks, method_may, abstract_marks, abstract_may, constructor_marks, constructor_may}
 use Rattle.jav_parse.proofs.CompleteComments.{comments_read}
 use Rattle.jav_parse.proofs.CompleteParameters.{Short, type_next, params_read, params_next}

@@ -8,20 +8,20 @@ use Rattle.jav_tree.specs.Expressions.{expr_at, MayBeCast}
 use Rattle.jav_tree.specs.Operators.{IsBinary, IsAssignment, IsStep, IsPrefix, BeginsWithSign}
 use Rattle.jav_tree.specs.Tokens.{IsSymbol, IsKeyword}
 use Rattle.jav_tree.specs.Types.{WholeType, is_primitive}
-use Rattle.jav_cursor.specs.declared.limits.Limits.{Limits}
-use Rattle.jav_expr.specs.declared.primary.Goal.TheVariants.{Level, Target as OfTarget}
-use Rattle.jav_cursor.specs.declared.sort.Sort.{Sort}
-use Rattle.jav_cursor.specs.declared.sort.Sort.TheVariants as sort
-use Rattle.jav_cursor.specs.declared.tall.Shape.{Shape}
-use Rattle.jav_cursor.specs.declared.tall.Shape.TheVariants.{Target, Invocation, Array, Loose}
-use Rattle.jav_cursor.specs.declared.tall.Tall.{Tall}
-use Rattle.jav_expr.specs.ExprRules as rule
-use Rattle.jav_expr.specs.ExprRules.{level_of, is_assignment, begins_operand, operand, climb, postfix, expr, inside}
-use Rattle.jav_cursor.specs.Nodes as made
-use Rattle.jav_expr.specs.PrimaryRules.{free, stepping, part}
-use Rattle.jav_cursor.specs.Reading.{sort as next}
-use Rattle.jav_cursor.specs.Sorts.{sort_of}
-use Rattle.jav_cursor.specs.TypeRules.{whole_type}
+use Rattle.jav_parse_cursor.specs.declared.limits.Limits.{Limits}
+use Rattle.jav_parse_expr.specs.declared.primary.Goal.TheVariants.{Level, Target as OfTarget}
+use Rattle.jav_parse_cursor.specs.declared.sort.Sort.{Sort}
+use Rattle.jav_parse_cursor.specs.declared.sort.Sort.TheVariants as sort
+use Rattle.jav_parse_cursor.specs.declared.tall.Shape.{Shape}
+use Rattle.jav_parse_cursor.specs.declared.tall.Shape.TheVariants.{Target, Invocation, Array, Loose}
+use Rattle.jav_parse_cursor.specs.declared.tall.Tall.{Tall}
+use Rattle.jav_parse_expr.specs.ExprRules as rule
+use Rattle.jav_parse_expr.specs.ExprRules.{level_of, is_assignment, begins_operand, operand, climb, postfix, expr, inside}
+use Rattle.jav_parse_cursor.specs.Nodes as made
+use Rattle.jav_parse_expr.specs.PrimaryRules.{free, stepping, part}
+use Rattle.jav_parse_cursor.specs.Reading.{sort as next}
+use Rattle.jav_parse_cursor.specs.Sorts.{sort_of}
+use Rattle.jav_parse_cursor.specs.TypeRules.{whole_type}
 use Rattle.jav_parse.proofs.CastSteps.{prefix_goes, step_goes, cast_read}
 use Rattle.jav_parse.proofs.CompletePrimary.{tall_same, ok_tall}
 use Rattle.jav_parse.proofs.CompleteTypes.{whole_read}
@@ -31,7 +31,7 @@ use Rattle.jav_parse.proofs.OperatorSteps.{postfix_ends, postfix_goes, climb_bin
 use Rattle.jav_parse.proofs.PartSteps.{sized, room, near_free, near_stepping, part_ends}
 use Rattle.jav_parse.proofs.ReadingSteps.{tokens_append, binds, Ends, ends_at, ends_not, no_link, no_operand, BeginsPart}
 use Rattle.jav_parse.proofs.SortsOfTokens.{IsOperator, binary_sort, assignment_sort, step_sort, prefix_sort, open_sort, close_sort, question_sort, colon_sort, instance_of_sort}
-use Rattle.jav_expr.proofs.AtHeight.{expr_is}
+use Rattle.jav_parse_expr.proofs.AtHeight.{expr_is}
 use Rattle.jav_parse.proofs.WholeReadings.{Builds, Short, Follows, PartRead, Climbing, Climbs, ExprRead, level_read, climbed, whole, climbs}
 
 -- an operand is read

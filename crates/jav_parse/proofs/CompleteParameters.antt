@@ -11,13 +11,13 @@ use Rattle.jav_tree.specs.Statements as stmts
 use Rattle.jav_tree.specs.Statements.{MaybeFinal}
 use Rattle.jav_tree.specs.Members as tree
 use Rattle.jav_tree.specs.Members.{Parameter, ParameterList, Parameters}
-use Rattle.jav_cursor.specs.declared.limits.Limits.{Limits}
-use Rattle.jav_cursor.specs.declared.sort.Sort.{Sort}
-use Rattle.jav_cursor.specs.declared.sort.Sort.TheVariants as sort
-use Rattle.jav_rules.specs.MemberRules.{param_of, param, further_params, some_params, params}
-use Rattle.jav_cursor.specs.Reading.{Outcome, Parser, and_then, ◌>>=◌, ◌>>◌, pure, take_token, expect, sort as next}
-use Rattle.jav_cursor.specs.Sorts.{same_sort, sort_of}
-use Rattle.jav_cursor.specs.TypeRules.{whole_type}
+use Rattle.jav_parse_cursor.specs.declared.limits.Limits.{Limits}
+use Rattle.jav_parse_cursor.specs.declared.sort.Sort.{Sort}
+use Rattle.jav_parse_cursor.specs.declared.sort.Sort.TheVariants as sort
+use Rattle.jav_parse_unit.specs.MemberRules.{param_of, param, further_params, some_params, params}
+use Rattle.jav_parse_cursor.specs.Reading.{Outcome, Parser, and_then, ◌>>=◌, ◌>>◌, pure, take_token, expect, sort as next}
+use Rattle.jav_parse_cursor.specs.Sorts.{same_sort, sort_of}
+use Rattle.jav_parse_cursor.specs.TypeRules.{whole_type}
 use Rattle.jav_parse.proofs.CompleteTypes.{whole_read, qualified_begins}
 use Rattle.jav_parse.proofs.ReadingSteps.{IsNot, is_not, expect_goes, same_self}
 use Rattle.jav_parse.proofs.SortsOfTokens.{name_sort, comma_sort, open_sort, close_sort, primitive_sort, keyword_sort}

@@ -4,20 +4,20 @@ use Rattle.mol_base.specs.Token.{Token}
 use Rattle.jav_tree.specs.declared.stmt.StmtNode.{StmtNode}
 use Rattle.jav_tree.specs.declared.stmt.StmtNode.TheVariants as node
 use Rattle.jav_tree.specs.Tokens.{start_of}
-use Rattle.jav_expr.specs.declared.action.Lead.TheVariants.{Part}
-use Rattle.jav_cursor.specs.declared.limits.Limits.{Limits}
-use Rattle.jav_expr.specs.declared.primary.Goal.TheVariants.{Level}
-use Rattle.jav_cursor.specs.declared.sort.Sort.{Sort}
-use Rattle.jav_cursor.specs.declared.sort.Sort.TheVariants as sort
-use Rattle.jav_stmt.specs.declared.stmt.Place.{Place}
-use Rattle.jav_stmt.specs.declared.stmt_tall.TallStmt.{TallStmt}
-use Rattle.jav_cursor.specs.declared.tall.Tall.{Tall}
-use Rattle.jav_expr.specs.ActionRules.{action, acting_on, type_or_part}
-use Rattle.jav_expr.specs.ExprRules.{expr}
-use Rattle.jav_cursor.specs.Reading.{Parser, Outcome, sort as next}
-use Rattle.jav_cursor.specs.Sorts.{sort_of, same_sort}
-use Rattle.jav_stmt.specs.StmtRules as rules
-use Rattle.jav_stmt.specs.StmtRules.{stmt, closed, done, expression, named, return_stmt, throw_stmt, word_stmt, empty_stmt, plain_by, item_by}
+use Rattle.jav_parse_expr.specs.declared.action.Lead.TheVariants.{Part}
+use Rattle.jav_parse_cursor.specs.declared.limits.Limits.{Limits}
+use Rattle.jav_parse_expr.specs.declared.primary.Goal.TheVariants.{Level}
+use Rattle.jav_parse_cursor.specs.declared.sort.Sort.{Sort}
+use Rattle.jav_parse_cursor.specs.declared.sort.Sort.TheVariants as sort
+use Rattle.jav_parse_stmt.specs.declared.stmt.Place.{Place}
+use Rattle.jav_parse_stmt.specs.declared.stmt_tall.TallStmt.{TallStmt}
+use Rattle.jav_parse_cursor.specs.declared.tall.Tall.{Tall}
+use Rattle.jav_parse_expr.specs.ActionRules.{action, acting_on, type_or_part}
+use Rattle.jav_parse_expr.specs.ExprRules.{expr}
+use Rattle.jav_parse_cursor.specs.Reading.{Parser, Outcome, sort as next}
+use Rattle.jav_parse_cursor.specs.Sorts.{sort_of, same_sort}
+use Rattle.jav_parse_stmt.specs.StmtRules as rules
+use Rattle.jav_parse_stmt.specs.StmtRules.{stmt, closed, done, expression, named, return_stmt, throw_stmt, word_stmt, empty_stmt, plain_by, item_by}
 use Rattle.jav_parse.proofs.CompleteActions.{Acts, action_goes}
 use Rattle.jav_parse.proofs.CompleteLeads.{acts_lead}
 use Rattle.jav_parse.proofs.FirstTokens.{Begins}

@@ -7,17 +7,17 @@ use Rattle.jav_tree.specs.declared.expr.ExprNode.TheVariants as node
 use Rattle.jav_tree.specs.Expressions.{expr_at}
 use Rattle.jav_tree.specs.Tokens.{IsSymbol, IsKeyword, IsName, IsLiteral}
 use Rattle.jav_tree.specs.Types.{Qualified, named}
-use Rattle.jav_cursor.specs.declared.limits.Limits.{Limits}
-use Rattle.jav_expr.specs.declared.primary.Rooms.{Rooms}
-use Rattle.jav_cursor.specs.declared.sort.Sort.{Sort}
-use Rattle.jav_cursor.specs.declared.sort.Sort.TheVariants as sort
-use Rattle.jav_cursor.specs.declared.tall.Shape.{Shape}
-use Rattle.jav_cursor.specs.declared.tall.Shape.TheVariants.{Target, Invocation, Atom, Array}
-use Rattle.jav_cursor.specs.declared.tall.Tall.{Tall}
-use Rattle.jav_cursor.specs.Nodes.{is_array}
-use Rattle.jav_expr.specs.PrimaryRules.{is_link}
-use Rattle.jav_cursor.specs.Reading.{Outcome, sort as next}
-use Rattle.jav_cursor.specs.Sorts.{same_sort, sort_of}
+use Rattle.jav_parse_cursor.specs.declared.limits.Limits.{Limits}
+use Rattle.jav_parse_expr.specs.declared.primary.Rooms.{Rooms}
+use Rattle.jav_parse_cursor.specs.declared.sort.Sort.{Sort}
+use Rattle.jav_parse_cursor.specs.declared.sort.Sort.TheVariants as sort
+use Rattle.jav_parse_cursor.specs.declared.tall.Shape.{Shape}
+use Rattle.jav_parse_cursor.specs.declared.tall.Shape.TheVariants.{Target, Invocation, Atom, Array}
+use Rattle.jav_parse_cursor.specs.declared.tall.Tall.{Tall}
+use Rattle.jav_parse_cursor.specs.Nodes.{is_array}
+use Rattle.jav_parse_expr.specs.PrimaryRules.{is_link}
+use Rattle.jav_parse_cursor.specs.Reading.{Outcome, sort as next}
+use Rattle.jav_parse_cursor.specs.Sorts.{same_sort, sort_of}
 use Rattle.jav_parse.proofs.CompleteTypes.{base_read, qualified_begins}
 use Rattle.jav_parse.proofs.PartSteps.{sized, Near, room_near, ReachesPart, starts, links, primary_name, primary_call, primary_literal, primary_this, primary_super, primary_parens, primary_created, link_field, link_call, link_index}
 use Rattle.jav_parse.proofs.ReadingSteps.{tokens_append, IsNot, is_not, ends_at}

@@ -8,14 +8,14 @@ use Rattle.jav_tree.specs.Expressions.{Expression}
 use Rattle.jav_tree.specs.Statements.{MayBeStatement, MaybeExpression}
 use Rattle.jav_tree.specs.Statements as grammar
 use Rattle.jav_tree.specs.Tokens.{IsSymbol, IsKeyword, start_of}
-use Rattle.jav_cursor.specs.declared.limits.Limits.{Limits}
-use Rattle.jav_expr.specs.declared.primary.Goal.TheVariants.{Level}
-use Rattle.jav_cursor.specs.declared.sort.Sort.{Sort}
-use Rattle.jav_cursor.specs.declared.sort.Sort.TheVariants as sort
-use Rattle.jav_expr.specs.ExprRules.{expr}
-use Rattle.jav_cursor.specs.Reading.{sort as next}
-use Rattle.jav_cursor.specs.Sorts.{sort_of}
-use Rattle.jav_stmt.specs.StmtRules.{stmt, closed}
+use Rattle.jav_parse_cursor.specs.declared.limits.Limits.{Limits}
+use Rattle.jav_parse_expr.specs.declared.primary.Goal.TheVariants.{Level}
+use Rattle.jav_parse_cursor.specs.declared.sort.Sort.{Sort}
+use Rattle.jav_parse_cursor.specs.declared.sort.Sort.TheVariants as sort
+use Rattle.jav_parse_expr.specs.ExprRules.{expr}
+use Rattle.jav_parse_cursor.specs.Reading.{sort as next}
+use Rattle.jav_parse_cursor.specs.Sorts.{sort_of}
+use Rattle.jav_parse_stmt.specs.StmtRules.{stmt, closed}
 use Rattle.jav_parse.proofs.CompleteActions.{ActionRead}
 use Rattle.jav_parse.proofs.CompletePlain.{start_same, begins_some, semi_ends, plain_action, item_action, throw_goes, return_none, return_some, word_goes, empty_goes, closed_is, by_word}
 use Rattle.jav_parse.proofs.FirstTokens.{Begins, begins_not}

@@ -10,16 +10,16 @@ use Rattle.jav_tree.specs.Blocks.{block_of}
 use Rattle.jav_tree.specs.Statements.{fronted, tailed}
 use Rattle.jav_tree.specs.Statements as grammar
 use Rattle.jav_tree.specs.Tokens.{start_of}
-use Rattle.jav_cursor.specs.declared.limits.Limits.{Limits}
-use Rattle.jav_cursor.specs.declared.sort.Sort.{Sort}
-use Rattle.jav_cursor.specs.declared.sort.Sort.TheVariants as sort
-use Rattle.jav_stmt.specs.declared.stmt.Place.{Place}
-use Rattle.jav_stmt.specs.declared.stmt.Place.TheVariants.{Item}
-use Rattle.jav_stmt.specs.declared.stmt_tall.TallBlock.{TallBlock}
-use Rattle.jav_stmt.specs.declared.stmt_tall.TallStmt.{TallStmt}
-use Rattle.jav_cursor.specs.Reading.{Parser, Outcome, sort as next}
-use Rattle.jav_cursor.specs.Sorts.{sort_of, same_sort}
-use Rattle.jav_stmt.specs.StmtRules.{stmt, closed, block, block_stmt}
+use Rattle.jav_parse_cursor.specs.declared.limits.Limits.{Limits}
+use Rattle.jav_parse_cursor.specs.declared.sort.Sort.{Sort}
+use Rattle.jav_parse_cursor.specs.declared.sort.Sort.TheVariants as sort
+use Rattle.jav_parse_stmt.specs.declared.stmt.Place.{Place}
+use Rattle.jav_parse_stmt.specs.declared.stmt.Place.TheVariants.{Item}
+use Rattle.jav_parse_stmt.specs.declared.stmt_tall.TallBlock.{TallBlock}
+use Rattle.jav_parse_stmt.specs.declared.stmt_tall.TallStmt.{TallStmt}
+use Rattle.jav_parse_cursor.specs.Reading.{Parser, Outcome, sort as next}
+use Rattle.jav_parse_cursor.specs.Sorts.{sort_of, same_sort}
+use Rattle.jav_parse_stmt.specs.StmtRules.{stmt, closed, block, block_stmt}
 use Rattle.jav_parse.proofs.CompleteActions.{action_read}
 use Rattle.jav_parse.proofs.CompleteBranches.{stmt_if, stmt_other}
 use Rattle.jav_parse.proofs.CompleteDeclarations.{DeclarationRead, BeginsDeclaration, declaration_read}

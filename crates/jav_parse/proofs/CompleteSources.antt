@@ -14,17 +14,17 @@ use Rattle.jav_tree.specs.Trees.{IsUnit}
 use Rattle.jav_tree.specs.Units as units
 use Rattle.jav_tree.specs.Units.{Named, Imports, Parent, AscendingOf, SourceFile}
 use Rattle.jav_tree.specs.Words.{Words, ClassWords, in_order}
-use Rattle.jav_cursor.specs.declared.limits.Limits.{Limits}
-use Rattle.jav_cursor.specs.declared.sort.Sort.TheVariants as sort
-use Rattle.jav_rules.specs.declared.unit.ImportList.{ImportList}
-use Rattle.jav_rules.specs.declared.unit.MemberList.{MemberList}
-use Rattle.jav_rules.specs.declared.words.Words.{Words as Modifiers}
-use Rattle.jav_cursor.specs.Nodes.{text_of}
-use Rattle.jav_cursor.specs.Reading.{take_token, comments, sort as next}
-use Rattle.jav_cursor.specs.Sorts.{same_sort, sort_of, keywords}
-use Rattle.jav_cursor.specs.TypeRules.{qualified}
-use Rattle.jav_rules.specs.UnitRules as rules
-use Rattle.jav_rules.specs.WordRules as words
+use Rattle.jav_parse_cursor.specs.declared.limits.Limits.{Limits}
+use Rattle.jav_parse_cursor.specs.declared.sort.Sort.TheVariants as sort
+use Rattle.jav_parse_unit.specs.declared.unit.ImportList.{ImportList}
+use Rattle.jav_parse_unit.specs.declared.unit.MemberList.{MemberList}
+use Rattle.jav_parse_unit.specs.declared.words.Words.{Words as Modifiers}
+use Rattle.jav_parse_cursor.specs.Nodes.{text_of}
+use Rattle.jav_parse_cursor.specs.Reading.{take_token, comments, sort as next}
+use Rattle.jav_parse_cursor.specs.Sorts.{same_sort, sort_of, keywords}
+use Rattle.jav_parse_cursor.specs.TypeRules.{qualified}
+use Rattle.jav_parse_unit.specs.UnitRules as rules
+use Rattle.jav_parse_unit.specs.WordRules as words
 use Rattle.jav_parse.proofs.AllowedMarks.{class_may}
 use Rattle.jav_parse.proofs.CompleteComments.{comments_read}
 use Rattle.jav_parse.proofs.CompleteDeclared.{modifiers, words_not}

@@ -10,12 +10,12 @@ use Rattle.jav_tree.specs.Statements.{Plain, Choice, Otherwise, Branch, Enclosed
 use Rattle.jav_tree.specs.Statements as grammar
 use Rattle.jav_tree.specs.Tokens.{Comments, start_of}
 use Rattle.jav_tree.specs.Trees.{IsBody}
-use Rattle.jav_cursor.specs.declared.limits.Limits.{Limits}
-use Rattle.jav_cursor.specs.declared.sort.Sort.TheVariants as sort
-use Rattle.jav_stmt.specs.declared.stmt.Place.TheVariants.{Item}
-use Rattle.jav_cursor.specs.Reading.{◌>>=◌, pure, sort as next}
-use Rattle.jav_cursor.specs.Sorts.{sort_of}
-use Rattle.jav_stmt.specs.StmtRules.{stmt, constructor_block}
+use Rattle.jav_parse_cursor.specs.declared.limits.Limits.{Limits}
+use Rattle.jav_parse_cursor.specs.declared.sort.Sort.TheVariants as sort
+use Rattle.jav_parse_stmt.specs.declared.stmt.Place.TheVariants.{Item}
+use Rattle.jav_parse_cursor.specs.Reading.{◌>>=◌, pure, sort as next}
+use Rattle.jav_parse_cursor.specs.Sorts.{sort_of}
+use Rattle.jav_parse_stmt.specs.StmtRules.{stmt, constructor_block}
 use Rattle.jav_parse.proofs.CompleteActions.{action_read}
 use Rattle.jav_parse.proofs.CompleteBlocks.{BodyRead, no_body, more_body, braced_block, ConstructorRead, usual_block, constructor_first}
 use Rattle.jav_parse.proofs.CompleteBranches.{short_read, long_read}

@@ -7,19 +7,19 @@ use Rattle.jav_tree.specs.declared.stmt.StmtNode.{StmtNode}
 use Rattle.jav_tree.specs.declared.stmt.StmtNode.TheVariants as node
 use Rattle.jav_tree.specs.Statements as grammar
 use Rattle.jav_tree.specs.Tokens.{start_of}
-use Rattle.jav_cursor.specs.declared.limits.Limits.{Limits}
-use Rattle.jav_expr.specs.declared.primary.Goal.TheVariants.{Level}
-use Rattle.jav_cursor.specs.declared.sort.Sort.{Sort}
-use Rattle.jav_cursor.specs.declared.sort.Sort.TheVariants as sort
-use Rattle.jav_cursor.specs.declared.tall.Listed.{Listed}
-use Rattle.jav_cursor.specs.declared.tall.Tall.{Tall}
-use Rattle.jav_cursor.specs.Nodes as made
-use Rattle.jav_expr.specs.ActionRules.{ending, goes_on, super_action}
-use Rattle.jav_expr.specs.ExprRules.{expr, inside}
-use Rattle.jav_expr.specs.PrimaryRules.{acting, arguments, super_call, primary, chain, part}
-use Rattle.jav_cursor.specs.Reading.{◌>>=◌, pure, refuse, take_token, expect, sort as next}
-use Rattle.jav_cursor.specs.Sorts.{sort_of, same_sort}
-use Rattle.jav_stmt.specs.StmtRules.{closed, done, super_first, super_start}
+use Rattle.jav_parse_cursor.specs.declared.limits.Limits.{Limits}
+use Rattle.jav_parse_expr.specs.declared.primary.Goal.TheVariants.{Level}
+use Rattle.jav_parse_cursor.specs.declared.sort.Sort.{Sort}
+use Rattle.jav_parse_cursor.specs.declared.sort.Sort.TheVariants as sort
+use Rattle.jav_parse_cursor.specs.declared.tall.Listed.{Listed}
+use Rattle.jav_parse_cursor.specs.declared.tall.Tall.{Tall}
+use Rattle.jav_parse_cursor.specs.Nodes as made
+use Rattle.jav_parse_expr.specs.ActionRules.{ending, goes_on, super_action}
+use Rattle.jav_parse_expr.specs.ExprRules.{expr, inside}
+use Rattle.jav_parse_expr.specs.PrimaryRules.{acting, arguments, super_call, primary, chain, part}
+use Rattle.jav_parse_cursor.specs.Reading.{◌>>=◌, pure, refuse, take_token, expect, sort as next}
+use Rattle.jav_parse_cursor.specs.Sorts.{sort_of, same_sort}
+use Rattle.jav_parse_stmt.specs.StmtRules.{closed, done, super_first, super_start}
 use Rattle.jav_parse.proofs.CompleteActions.{Acts, ActionRead, action_read}
 use Rattle.jav_parse.proofs.CompleteActions as actions
 use Rattle.jav_parse.proofs.CompletePlain.{FirstIs, first_is, start_same, begins_some, semi_ends, closed_is}

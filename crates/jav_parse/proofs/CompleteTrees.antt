@@ -3,10 +3,10 @@ use Rattle.std.proofs.Common.{◌≡◌, ℕ, ◌<◌, ◌≤◌, true, List, []
 use Rattle.mol_base.specs.Token.{Token}
 use Rattle.jav_tree.specs.declared.expr.Expr.{Expr}
 use Rattle.jav_tree.specs.Trees.{IsExpr}
-use Rattle.jav_cursor.specs.declared.limits.Limits.{Limits}
-use Rattle.jav_expr.specs.declared.primary.Goal.TheVariants.{Level}
-use Rattle.jav_expr.specs.ExprRules.{expr}
-use Rattle.jav_cursor.specs.Reading.{and_then, ◌>>=◌, pure, sort as next}
+use Rattle.jav_parse_cursor.specs.declared.limits.Limits.{Limits}
+use Rattle.jav_parse_expr.specs.declared.primary.Goal.TheVariants.{Level}
+use Rattle.jav_parse_expr.specs.ExprRules.{expr}
+use Rattle.jav_parse_cursor.specs.Reading.{and_then, ◌>>=◌, pure, sort as next}
 use Rattle.jav_parse.proofs.CompleteExpressions.{expression_read}
 use Rattle.jav_parse.proofs.PartSteps.{sized}
 use Rattle.jav_parse.proofs.ReadingSteps.{Ends}

@@ -5,14 +5,14 @@ use Rattle.mol_base.specs.Token.{Token}
 use Rattle.jav_tree.specs.declared.types.TypeName.{TypeName}
 use Rattle.jav_tree.specs.declared.types.TypeName.TheVariants as ty
 use Rattle.jav_tree.specs.Types.{Qualified, name, dotted, BaseType, primitive, named, Brackets, none, pair, array_of, WholeType, whole}
-use Rattle.jav_cursor.specs.declared.limits.Limits.{Limits}
-use Rattle.jav_cursor.specs.declared.sort.Sort.{Sort}
-use Rattle.jav_cursor.specs.declared.sort.Sort.TheVariants as sort
-use Rattle.jav_cursor.specs.Nodes.{text_of, array_type}
-use Rattle.jav_cursor.specs.Reading.{sort as next, take_token}
-use Rattle.jav_cursor.specs.Sorts.{same_sort, sort_of}
-use Rattle.jav_cursor.specs.TypeRules as rule
-use Rattle.jav_cursor.specs.TypeRules.{further_names, qualified, base_type, brackets, type_after, whole_type}
+use Rattle.jav_parse_cursor.specs.declared.limits.Limits.{Limits}
+use Rattle.jav_parse_cursor.specs.declared.sort.Sort.{Sort}
+use Rattle.jav_parse_cursor.specs.declared.sort.Sort.TheVariants as sort
+use Rattle.jav_parse_cursor.specs.Nodes.{text_of, array_type}
+use Rattle.jav_parse_cursor.specs.Reading.{sort as next, take_token}
+use Rattle.jav_parse_cursor.specs.Sorts.{same_sort, sort_of}
+use Rattle.jav_parse_cursor.specs.TypeRules as rule
+use Rattle.jav_parse_cursor.specs.TypeRules.{further_names, qualified, base_type, brackets, type_after, whole_type}
 use Rattle.jav_parse.proofs.ReadingSteps.{IsNot, is_not, expect_goes, same_self}
 use Rattle.jav_parse.proofs.SortsOfTokens.{name_sort, dot_sort, left_sort, right_sort, primitive_sort}
 

@@ -9,16 +9,16 @@ use Rattle.jav_tree.specs.Members.{Declared, Body}
 use Rattle.jav_tree.specs.Trees.{IsMember}
 use Rattle.jav_tree.specs.Units as units
 use Rattle.jav_tree.specs.Units.{Named, Imports, Parent, AscendingOf, SourceFile}
-use Rattle.jav_cursor.specs.declared.limits.Limits.{Limits}
-use Rattle.jav_cursor.specs.declared.sort.Sort.TheVariants as sort
-use Rattle.jav_rules.specs.declared.unit.ImportList.{ImportList}
-use Rattle.jav_rules.specs.MemberRules.{declared}
-use Rattle.jav_cursor.specs.Nodes.{text_of}
-use Rattle.jav_cursor.specs.Reading.{take_token, comments, sort as next}
-use Rattle.jav_cursor.specs.Sorts.{same_sort, sort_of}
-use Rattle.jav_cursor.specs.TypeRules.{qualified}
-use Rattle.jav_rules.specs.UnitRules as rules
-use Rattle.jav_rules.specs.WholeRules.{declaration}
+use Rattle.jav_parse_cursor.specs.declared.limits.Limits.{Limits}
+use Rattle.jav_parse_cursor.specs.declared.sort.Sort.TheVariants as sort
+use Rattle.jav_parse_unit.specs.declared.unit.ImportList.{ImportList}
+use Rattle.jav_parse_unit.specs.MemberRules.{declared}
+use Rattle.jav_parse_cursor.specs.Nodes.{text_of}
+use Rattle.jav_parse_cursor.specs.Reading.{take_token, comments, sort as next}
+use Rattle.jav_parse_cursor.specs.Sorts.{same_sort, sort_of}
+use Rattle.jav_parse_cursor.specs.TypeRules.{qualified}
+use Rattle.jav_parse_unit.specs.UnitRules as rules
+use Rattle.jav_parse_unit.specs.WholeRules.{declaration}
 use Rattle.jav_parse.proofs.CompleteComments.{comments_read}
 use Rattle.jav_parse.proofs.CompleteDeclared.{declared_read}
 use Rattle.jav_parse.proofs.CompleteParameters.{Short}

@@ -7,18 +7,18 @@ use Rattle.mol_base.specs.Token.{Token}
 use Rattle.jav_tree.specs.declared.expr.Expr.{Expr}
 use Rattle.jav_tree.specs.Expressions as tree
 use Rattle.jav_tree.specs.Statements.{MayBeStatement}
-use Rattle.jav_expr.specs.declared.action.Lead.TheVariants.{Part}
-use Rattle.jav_cursor.specs.declared.limits.Limits.{Limits}
-use Rattle.jav_cursor.specs.declared.sort.Sort.{Sort}
-use Rattle.jav_cursor.specs.declared.sort.Sort.TheVariants as sort
-use Rattle.jav_cursor.specs.declared.tall.Shape.{Shape}
-use Rattle.jav_cursor.specs.declared.tall.Listed.{Listed}
-use Rattle.jav_cursor.specs.declared.tall.Tall.{Tall}
-use Rattle.jav_cursor.specs.Nodes as made
-use Rattle.jav_expr.specs.ActionRules.{action, acting_on, type_or_part, actions, actions_after, further_actions}
-use Rattle.jav_cursor.specs.Reading.{sort as next}
-use Rattle.jav_cursor.specs.Sorts.{sort_of, same_sort}
-use Rattle.jav_stmt.specs.StmtRules.{header, header_by, header_named, doing}
+use Rattle.jav_parse_expr.specs.declared.action.Lead.TheVariants.{Part}
+use Rattle.jav_parse_cursor.specs.declared.limits.Limits.{Limits}
+use Rattle.jav_parse_cursor.specs.declared.sort.Sort.{Sort}
+use Rattle.jav_parse_cursor.specs.declared.sort.Sort.TheVariants as sort
+use Rattle.jav_parse_cursor.specs.declared.tall.Shape.{Shape}
+use Rattle.jav_parse_cursor.specs.declared.tall.Listed.{Listed}
+use Rattle.jav_parse_cursor.specs.declared.tall.Tall.{Tall}
+use Rattle.jav_parse_cursor.specs.Nodes as made
+use Rattle.jav_parse_expr.specs.ActionRules.{action, acting_on, type_or_part, actions, actions_after, further_actions}
+use Rattle.jav_parse_cursor.specs.Reading.{sort as next}
+use Rattle.jav_parse_cursor.specs.Sorts.{sort_of, same_sort}
+use Rattle.jav_parse_stmt.specs.StmtRules.{header, header_by, header_named, doing}
 use Rattle.jav_parse.proofs.CompleteActions.{Acts, ActionRead, action_goes, action_read}
 use Rattle.jav_parse.proofs.CompleteLeads.{LeadRead, acts_lead}
 use Rattle.jav_parse.proofs.CompletePlain.{FirstIs, first_is}

@@ -11,16 +11,16 @@ use Rattle.jav_tree.specs.Statements as grammar
 use Rattle.jav_tree.specs.Statements.{Variables, BlockOf, ConstructorBlock, fronted, tailed}
 use Rattle.jav_tree.specs.Trees.{IsUnit, IsMember, IsBody}
 use Rattle.jav_tree.specs.Units.{AscendingOf}
-use Rattle.jav_cursor.specs.declared.limits.Limits.{Limits}
-use Rattle.jav_cursor.specs.declared.sort.Sort.TheVariants as sort
-use Rattle.jav_stmt.specs.declared.stmt.Place.TheVariants as place
-use Rattle.jav_stmt.specs.LocalRules as locals
-use Rattle.jav_cursor.specs.Reading.{sort as next}
-use Rattle.jav_cursor.specs.Sorts.{same_sort}
-use Rattle.jav_stmt.specs.StmtRules as rules
-use Rattle.jav_stmt.specs.StmtRules.{stmt}
-use Rattle.jav_rules.specs.UnitRules.{unit}
-use Rattle.jav_rules.specs.WholeRules.{declaration, body}
+use Rattle.jav_parse_cursor.specs.declared.limits.Limits.{Limits}
+use Rattle.jav_parse_cursor.specs.declared.sort.Sort.TheVariants as sort
+use Rattle.jav_parse_stmt.specs.declared.stmt.Place.TheVariants as place
+use Rattle.jav_parse_stmt.specs.LocalRules as locals
+use Rattle.jav_parse_cursor.specs.Reading.{sort as next}
+use Rattle.jav_parse_cursor.specs.Sorts.{same_sort}
+use Rattle.jav_parse_stmt.specs.StmtRules as rules
+use Rattle.jav_parse_stmt.specs.StmtRules.{stmt}
+use Rattle.jav_parse_unit.specs.UnitRules.{unit}
+use Rattle.jav_parse_unit.specs.WholeRules.{declaration, body}
 use Rattle.jav_parse.proofs.CompleteLocals.{AfterVariables, variables_read}
 use Rattle.jav_parse.proofs.CompleteSources.{source_whole}
 use Rattle.jav_parse.proofs.CompleteLaws.{whole_laws}

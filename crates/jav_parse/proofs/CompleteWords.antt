@@ -13,12 +13,12 @@ use Rattle.mol_base.specs.declared.token_kind.TokenKind.TheVariants as kind
 use Rattle.jav_tree.specs.Tokens.{IsSymbol, IsName, IsKeyword}
 use Rattle.jav_tree.specs.Words as tree
 use Rattle.jav_tree.specs.Words.{Words}
-use Rattle.jav_cursor.specs.declared.sort.Sort.{Sort}
-use Rattle.jav_cursor.specs.declared.sort.Sort.TheVariants as sort
-use Rattle.jav_rules.specs.declared.words.Words.{Words as Modifiers}
-use Rattle.jav_cursor.specs.Reading.{take_token, sort as next, expect_override}
-use Rattle.jav_cursor.specs.Sorts.{sort_of, same_sort}
-use Rattle.jav_rules.specs.WordRules as rules
+use Rattle.jav_parse_cursor.specs.declared.sort.Sort.{Sort}
+use Rattle.jav_parse_cursor.specs.declared.sort.Sort.TheVariants as sort
+use Rattle.jav_parse_unit.specs.declared.words.Words.{Words as Modifiers}
+use Rattle.jav_parse_cursor.specs.Reading.{take_token, sort as next, expect_override}
+use Rattle.jav_parse_cursor.specs.Sorts.{sort_of, same_sort}
+use Rattle.jav_parse_unit.specs.WordRules as rules
 use Rattle.jav_parse.proofs.Modifiers.{Marked, Within, bits, bit, nine, has_marks, nth_number}
 use Rattle.jav_parse.proofs.SortsOfTokens.{name_sort, keyword_sort, symbol_sort}
 use Rattle.jav_parse.proofs.SoundWords as step

@@ -2,22 +2,22 @@
 use Rattle.std.proofs.Common.{ℕ, zero, suc, ◌+◌, ◌-◌, ◌<◌, ◌≤◌, List, refl, ap, arith}
 use Rattle.mol_base.specs.Token.{Token}
 use Rattle.jav_tree.specs.declared.types.TypeName.{TypeName}
-use Rattle.jav_expr.specs.declared.action.Lead.{Lead}
-use Rattle.jav_expr.specs.declared.action.Lead.TheVariants.{Declaration, Part}
-use Rattle.jav_cursor.specs.declared.limits.Limits.{Limits}
-use Rattle.jav_expr.specs.declared.primary.Goal.{Goal}
-use Rattle.jav_expr.specs.declared.primary.Goal.TheVariants.{Target}
-use Rattle.jav_cursor.specs.declared.sort.Sort.{Sort}
-use Rattle.jav_cursor.specs.declared.sort.Sort.TheVariants as sort
-use Rattle.jav_cursor.specs.declared.tall.Tall.{Tall}
-use Rattle.jav_cursor.specs.declared.tall.Listed.{Listed}
-use Rattle.jav_expr.specs.ActionRules as acts
-use Rattle.jav_expr.specs.ActionRules.{ending, action, acting_on, super_action, indexed_or_array, lead_by, type_or_part, further_actions, actions_after, actions}
-use Rattle.jav_expr.specs.ExprRules.{expr, inside, is_assignment}
-use Rattle.jav_cursor.specs.Nodes as made
-use Rattle.jav_cursor.specs.Nodes.{is_target, is_invocation, count_of, text_of, array_type}
-use Rattle.jav_expr.specs.PrimaryRules.{acting}
-use Rattle.jav_cursor.specs.Sorts.{same_sort}
+use Rattle.jav_parse_expr.specs.declared.action.Lead.{Lead}
+use Rattle.jav_parse_expr.specs.declared.action.Lead.TheVariants.{Declaration, Part}
+use Rattle.jav_parse_cursor.specs.declared.limits.Limits.{Limits}
+use Rattle.jav_parse_expr.specs.declared.primary.Goal.{Goal}
+use Rattle.jav_parse_expr.specs.declared.primary.Goal.TheVariants.{Target}
+use Rattle.jav_parse_cursor.specs.declared.sort.Sort.{Sort}
+use Rattle.jav_parse_cursor.specs.declared.sort.Sort.TheVariants as sort
+use Rattle.jav_parse_cursor.specs.declared.tall.Tall.{Tall}
+use Rattle.jav_parse_cursor.specs.declared.tall.Listed.{Listed}
+use Rattle.jav_parse_expr.specs.ActionRules as acts
+use Rattle.jav_parse_expr.specs.ActionRules.{ending, action, acting_on, super_action, indexed_or_array, lead_by, type_or_part, further_actions, actions_after, actions}
+use Rattle.jav_parse_expr.specs.ExprRules.{expr, inside, is_assignment}
+use Rattle.jav_parse_cursor.specs.Nodes as made
+use Rattle.jav_parse_cursor.specs.Nodes.{is_target, is_invocation, count_of, text_of, array_type}
+use Rattle.jav_parse_expr.specs.PrimaryRules.{acting}
+use Rattle.jav_parse_cursor.specs.Sorts.{same_sort}
 use Rattle.jav_parse.proofs.Agree.{Agree, Any, Enough, agree_pure, agree_refuse, agree_known, agree_frame, agree_bind, agree_then, agree_if, agree_peek, agree_when, agree_take, enough, enough_for, turns, agree_eq}
 use Rattle.jav_parse.proofs.EnoughExpr.{LikeGoal, Asks, like_inside, agree_step_after, agree_assignment, agree_prefixed, agree_expr}
 use Rattle.jav_parse.proofs.EnoughPrimary.{tall, LikeRooms, LikeInside, agree_super_call, agree_links, agree_part, agree_named, agree_named_item}

@@ -3,18 +3,18 @@ use Rattle.std.proofs.Common.{ℕ, zero, suc, ◌+◌, ◌-◌, ◌<◌, ◌≤�
 use Rattle.mol_base.specs.Token.{Token}
 use Rattle.jav_tree.specs.declared.types.TypeName.{TypeName}
 use Rattle.jav_tree.specs.declared.types.TypeName.TheVariants as ty
-use Rattle.jav_cursor.specs.declared.limits.Limits.{Limits}
-use Rattle.jav_expr.specs.declared.primary.Goal.{Goal}
-use Rattle.jav_expr.specs.declared.primary.Goal.TheVariants.{Level, Target, Init, After}
-use Rattle.jav_cursor.specs.declared.sort.Sort.{Sort}
-use Rattle.jav_cursor.specs.declared.sort.Sort.TheVariants as sort
-use Rattle.jav_cursor.specs.declared.tall.Tall.{Tall}
-use Rattle.jav_cursor.specs.Nodes as made
-use Rattle.jav_cursor.specs.Nodes.{is_target, count_of, text_of, array_type}
-use Rattle.jav_expr.specs.ExprRules.{level_of, is_assignment, begins_operand, inside_by, step_after, postfix, assign_to, assignment, instance_of, binary, operation, climb, choice, operators, cast, array_cast, primitive_cast, after_parens, closed, goes_on, name_closed, opened_by, opened_name, opened_at, opened, prefixed, operand_by, operand, level, after, target, init, asked, expr}
-use Rattle.jav_expr.specs.PrimaryRules.{free, stepping, named_item}
-use Rattle.jav_cursor.specs.Reading.{Parser}
-use Rattle.jav_cursor.specs.Sorts.{same_sort}
+use Rattle.jav_parse_cursor.specs.declared.limits.Limits.{Limits}
+use Rattle.jav_parse_expr.specs.declared.primary.Goal.{Goal}
+use Rattle.jav_parse_expr.specs.declared.primary.Goal.TheVariants.{Level, Target, Init, After}
+use Rattle.jav_parse_cursor.specs.declared.sort.Sort.{Sort}
+use Rattle.jav_parse_cursor.specs.declared.sort.Sort.TheVariants as sort
+use Rattle.jav_parse_cursor.specs.declared.tall.Tall.{Tall}
+use Rattle.jav_parse_cursor.specs.Nodes as made
+use Rattle.jav_parse_cursor.specs.Nodes.{is_target, count_of, text_of, array_type}
+use Rattle.jav_parse_expr.specs.ExprRules.{level_of, is_assignment, begins_operand, inside_by, step_after, postfix, assign_to, assignment, instance_of, binary, operation, climb, choice, operators, cast, array_cast, primitive_cast, after_parens, closed, goes_on, name_closed, opened_by, opened_name, opened_at, opened, prefixed, operand_by, operand, level, after, target, init, asked, expr}
+use Rattle.jav_parse_expr.specs.PrimaryRules.{free, stepping, named_item}
+use Rattle.jav_parse_cursor.specs.Reading.{Parser}
+use Rattle.jav_parse_cursor.specs.Sorts.{same_sort}
 use Rattle.jav_parse.proofs.Agree.{Agree, Turns, Enough, agree_pure, agree_refuse, agree_known, agree_frame, agree_bind, agree_then, agree_if, agree_peek, agree_place, agree_when, agree_take, agree_expect, enough, enough_for, lower, lower_two, enough_turns, turns, turns_more, turned, agree_turns, agree_turns', same_le, agree_le}
 use Rattle.jav_parse.proofs.EnoughPrimary.{tall, inner_at, agree_items, LikeRooms, LikeInside, risen, or_same, agree_links, agree_part, agree_named, agree_named_item}
 use Rattle.jav_parse.proofs.EnoughTypes.{LikeLimits, like_less, agree_qualified, agree_primitive, agree_brackets, agree_whole_type}

@@ -5,21 +5,21 @@ use Rattle.jav_tree.specs.declared.expr.Expr.{Expr}
 use Rattle.jav_tree.specs.declared.stmt.ForStart.{ForStart}
 use Rattle.jav_tree.specs.declared.stmt.StmtNode.TheVariants as node
 use Rattle.jav_tree.specs.Blocks.{block_of}
-use Rattle.jav_stmt.specs.declared.flow.HeaderPart.{HeaderPart}
-use Rattle.jav_stmt.specs.declared.flow.Maybe.{Maybe}
-use Rattle.jav_stmt.specs.declared.flow.TallElse.{TallElse}
-use Rattle.jav_cursor.specs.declared.limits.Limits.{Limits}
-use Rattle.jav_expr.specs.declared.primary.Goal.TheVariants.{Level}
-use Rattle.jav_cursor.specs.declared.sort.Sort.{Sort}
-use Rattle.jav_cursor.specs.declared.sort.Sort.TheVariants as sort
-use Rattle.jav_stmt.specs.declared.stmt.Place.{Place}
-use Rattle.jav_stmt.specs.declared.stmt.Place.TheVariants.{Item, Branch, Plain, Chain}
-use Rattle.jav_stmt.specs.declared.stmt_tall.TallBlock.{TallBlock}
-use Rattle.jav_stmt.specs.declared.stmt_tall.TallStmt.{TallStmt}
-use Rattle.jav_cursor.specs.declared.tall.Listed.{Listed}
-use Rattle.jav_cursor.specs.Reading.{Parser, pure}
-use Rattle.jav_cursor.specs.Sorts.{same_sort}
-use Rattle.jav_stmt.specs.StmtRules.{closed, short_if, long_if, branch, block_stmt, else_branch, chosen, if_stmt, while_stmt, counted_body, counted, each, for_by, for_stmt, plain_by, plain, item_by, item, if_at, standing, statement_at, stmt}
+use Rattle.jav_parse_stmt.specs.declared.flow.HeaderPart.{HeaderPart}
+use Rattle.jav_parse_stmt.specs.declared.flow.Maybe.{Maybe}
+use Rattle.jav_parse_stmt.specs.declared.flow.TallElse.{TallElse}
+use Rattle.jav_parse_cursor.specs.declared.limits.Limits.{Limits}
+use Rattle.jav_parse_expr.specs.declared.primary.Goal.TheVariants.{Level}
+use Rattle.jav_parse_cursor.specs.declared.sort.Sort.{Sort}
+use Rattle.jav_parse_cursor.specs.declared.sort.Sort.TheVariants as sort
+use Rattle.jav_parse_stmt.specs.declared.stmt.Place.{Place}
+use Rattle.jav_parse_stmt.specs.declared.stmt.Place.TheVariants.{Item, Branch, Plain, Chain}
+use Rattle.jav_parse_stmt.specs.declared.stmt_tall.TallBlock.{TallBlock}
+use Rattle.jav_parse_stmt.specs.declared.stmt_tall.TallStmt.{TallStmt}
+use Rattle.jav_parse_cursor.specs.declared.tall.Listed.{Listed}
+use Rattle.jav_parse_cursor.specs.Reading.{Parser, pure}
+use Rattle.jav_parse_cursor.specs.Sorts.{same_sort}
+use Rattle.jav_parse_stmt.specs.StmtRules.{closed, short_if, long_if, branch, block_stmt, else_branch, chosen, if_stmt, while_stmt, counted_body, counted, each, for_by, for_stmt, plain_by, plain, item_by, item, if_at, standing, statement_at, stmt}
 use Rattle.jav_parse.proofs.Agree.{Agree, Enough, agree_pure, agree_refuse, agree_bind, agree_if, agree_peek, agree_place, agree_when, agree_take, agree_expect, agree_comments, enough, enough_for, lower, lower_two, agree_le}
 use Rattle.jav_parse.proofs.EnoughAction.{agree_expr_at}
 use Rattle.jav_parse.proofs.EnoughExpr.{LikeGoal}

@@ -2,16 +2,16 @@
 use Rattle.std.proofs.Common.{◌≡◌, ℕ, zero, suc, ◌+◌, ◌-◌, ◌<◌, ◌≤◌, max, ◌||◌, Bool, List, refl, ap, arith}
 use Rattle.mol_base.specs.Token.{Token}
 use Rattle.jav_tree.specs.declared.types.TypeName.{TypeName}
-use Rattle.jav_cursor.specs.declared.limits.Limits.{Limits}
-use Rattle.jav_expr.specs.declared.primary.Rooms.{Rooms}
-use Rattle.jav_cursor.specs.declared.sort.Sort.{Sort}
-use Rattle.jav_cursor.specs.declared.sort.Sort.TheVariants as sort
-use Rattle.jav_cursor.specs.declared.tall.Tall.{Tall}
-use Rattle.jav_cursor.specs.declared.tall.Listed.{Listed}
-use Rattle.jav_cursor.specs.Nodes as made
-use Rattle.jav_cursor.specs.Nodes.{is_array, count_of, array_type}
-use Rattle.jav_expr.specs.PrimaryRules.{is_link, further_arguments, some_arguments, arguments_after, arguments, further_items, some_items, items_after, items, member_name, Inside, filled, empty_pairs, further_sizes, sized, array, creation, super_call, name, parens, primary_by, primary, call_on, member_named, member, index, item, link_by, link, chain, part, named, named_item}
-use Rattle.jav_cursor.specs.Reading.{Parser}
+use Rattle.jav_parse_cursor.specs.declared.limits.Limits.{Limits}
+use Rattle.jav_parse_expr.specs.declared.primary.Rooms.{Rooms}
+use Rattle.jav_parse_cursor.specs.declared.sort.Sort.{Sort}
+use Rattle.jav_parse_cursor.specs.declared.sort.Sort.TheVariants as sort
+use Rattle.jav_parse_cursor.specs.declared.tall.Tall.{Tall}
+use Rattle.jav_parse_cursor.specs.declared.tall.Listed.{Listed}
+use Rattle.jav_parse_cursor.specs.Nodes as made
+use Rattle.jav_parse_cursor.specs.Nodes.{is_array, count_of, array_type}
+use Rattle.jav_parse_expr.specs.PrimaryRules.{is_link, further_arguments, some_arguments, arguments_after, arguments, further_items, some_items, items_after, items, member_name, Inside, filled, empty_pairs, further_sizes, sized, array, creation, super_call, name, parens, primary_by, primary, call_on, member_named, member, index, item, link_by, link, chain, part, named, named_item}
+use Rattle.jav_parse_cursor.specs.Reading.{Parser}
 use Rattle.jav_parse.proofs.Agree.{Agree, Same, Turns, Enough, agree_pure, agree_refuse, agree_known, agree_with, agree_frame, agree_bind, agree_then, agree_if, agree_peek, agree_when, agree_take, agree_expect, expect_agrees, enough_turns, turns, turns_more, turned, agree_turns, agree_turns', same_le, agree_le, agree_lt, agree_eq}
 use Rattle.jav_parse.proofs.EnoughTypes.{LikeLimits, agree_primitive, agree_base_type, agree_brackets}
 use Rattle.jav_parse.proofs.LikeTrees.{LikeTall, LikeListed, like_self, like_named, named_high, like_call, call_low}

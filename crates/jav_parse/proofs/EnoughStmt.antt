@@ -3,24 +3,24 @@ use Rattle.std.proofs.Common.{◌≡◌, ℕ, zero, suc, ◌+◌, ◌-◌, ◌<�
 use Rattle.mol_base.specs.Token.{Token}
 use Rattle.jav_tree.specs.declared.types.TypeName.{TypeName}
 use Rattle.jav_tree.specs.declared.stmt.StmtNode.{StmtNode}
-use Rattle.jav_expr.specs.declared.action.Lead.{Lead}
-use Rattle.jav_stmt.specs.declared.flow.HeaderPart.{HeaderPart}
-use Rattle.jav_stmt.specs.declared.flow.HeaderPart.TheVariants.{Start, Each}
+use Rattle.jav_parse_expr.specs.declared.action.Lead.{Lead}
+use Rattle.jav_parse_stmt.specs.declared.flow.HeaderPart.{HeaderPart}
+use Rattle.jav_parse_stmt.specs.declared.flow.HeaderPart.TheVariants.{Start, Each}
 use Rattle.jav_tree.specs.declared.stmt.ForStart.{ForStart}
-use Rattle.jav_cursor.specs.declared.limits.Limits.{Limits}
-use Rattle.jav_stmt.specs.declared.local.VariableList.{VariableList}
-use Rattle.jav_expr.specs.declared.primary.Goal.TheVariants.{Level, Init}
-use Rattle.jav_cursor.specs.declared.sort.Sort.{Sort}
-use Rattle.jav_cursor.specs.declared.sort.Sort.TheVariants as sort
-use Rattle.jav_stmt.specs.declared.stmt.Several.{Several}
-use Rattle.jav_stmt.specs.declared.stmt_tall.TallBlock.{TallBlock}
-use Rattle.jav_stmt.specs.declared.stmt_tall.TallStmt.{TallStmt}
-use Rattle.jav_cursor.specs.declared.tall.Tall.{Tall}
-use Rattle.jav_expr.specs.ExprRules.{expr}
-use Rattle.jav_stmt.specs.LocalRules.{no_variables, with_variable, further_variables, variables}
-use Rattle.jav_cursor.specs.Reading.{Parser}
-use Rattle.jav_stmt.specs.StmtRules as rules
-use Rattle.jav_stmt.specs.StmtRules.{condition, super_start, done, super_first, local_of, local, led, expression, return_stmt, throw_stmt, word_stmt, empty_stmt, header_let, header_of, header_led, header_named, header_by, header, for_test, updates, nothing, added_to, next_item, statements, block, from_super, constructor_block}
+use Rattle.jav_parse_cursor.specs.declared.limits.Limits.{Limits}
+use Rattle.jav_parse_stmt.specs.declared.local.VariableList.{VariableList}
+use Rattle.jav_parse_expr.specs.declared.primary.Goal.TheVariants.{Level, Init}
+use Rattle.jav_parse_cursor.specs.declared.sort.Sort.{Sort}
+use Rattle.jav_parse_cursor.specs.declared.sort.Sort.TheVariants as sort
+use Rattle.jav_parse_stmt.specs.declared.stmt.Several.{Several}
+use Rattle.jav_parse_stmt.specs.declared.stmt_tall.TallBlock.{TallBlock}
+use Rattle.jav_parse_stmt.specs.declared.stmt_tall.TallStmt.{TallStmt}
+use Rattle.jav_parse_cursor.specs.declared.tall.Tall.{Tall}
+use Rattle.jav_parse_expr.specs.ExprRules.{expr}
+use Rattle.jav_parse_stmt.specs.LocalRules.{no_variables, with_variable, further_variables, variables}
+use Rattle.jav_parse_cursor.specs.Reading.{Parser}
+use Rattle.jav_parse_stmt.specs.StmtRules as rules
+use Rattle.jav_parse_stmt.specs.StmtRules.{condition, super_start, done, super_first, local_of, local, led, expression, return_stmt, throw_stmt, word_stmt, empty_stmt, header_let, header_of, header_led, header_named, header_by, header, for_test, updates, nothing, added_to, next_item, statements, block, from_super, constructor_block}
 use Rattle.jav_parse.proofs.Agree.{Agree, Any, Enough, agree_pure, agree_refuse, agree_known, agree_with, agree_frame, agree_bind, agree_peek, agree_place, agree_when, agree_take, agree_expect, agree_comments, enough, enough_for, agree_eq, agree_le}
 use Rattle.jav_parse.proofs.EnoughAction.{agree_expr_at, LikeLead, lead_height, agree_acting_on, agree_super_action, agree_type_or_part, agree_action, agree_actions_after, agree_actions}
 use Rattle.jav_parse.proofs.EnoughExpr.{LikeGoal, agree_expr}

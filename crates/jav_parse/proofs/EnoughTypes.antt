@@ -3,9 +3,9 @@ use Rattle.std.proofs.Common.{ℕ, zero, suc, ◌+◌, ◌-◌, ◌<◌, ◌≤�
 use Rattle.std.proofs.lemmas.List.{length-append}
 use Rattle.mol_base.specs.Token.{Token}
 use Rattle.jav_tree.specs.declared.types.TypeName.{TypeName}
-use Rattle.jav_cursor.specs.declared.limits.Limits.{Limits}
-use Rattle.jav_cursor.specs.declared.sort.Sort.TheVariants.{Name, Dot, Left, Right, Prim}
-use Rattle.jav_cursor.specs.TypeRules.{further_names, qualified, primitive, base_type, brackets, type_after, whole_type}
+use Rattle.jav_parse_cursor.specs.declared.limits.Limits.{Limits}
+use Rattle.jav_parse_cursor.specs.declared.sort.Sort.TheVariants.{Name, Dot, Left, Right, Prim}
+use Rattle.jav_parse_cursor.specs.TypeRules.{further_names, qualified, primitive, base_type, brackets, type_after, whole_type}
 use Rattle.jav_parse.proofs.Agree.{Agree, Same, Any, Turns, agree_pure, agree_known, agree_with, agree_then, agree_when, agree_take, agree_expect, turns, turned, agree_turns, agree_turns'}
 
 -- Two limits for n tokens: each has more turns, and they allow equally many items, or more than there are tokens.

@@ -5,21 +5,21 @@ use Rattle.jav_tree.specs.declared.types.TypeName.{TypeName}
 use Rattle.jav_tree.specs.declared.types.TypeName.TheVariants as ty
 use Rattle.jav_tree.specs.declared.unit.Member.{Member}
 use Rattle.jav_tree.specs.declared.unit.Param.{Param}
-use Rattle.jav_cursor.specs.declared.limits.Limits.{Limits}
-use Rattle.jav_rules.specs.declared.member.Front.{Front}
-use Rattle.jav_cursor.specs.declared.sort.Sort.{Sort}
-use Rattle.jav_cursor.specs.declared.sort.Sort.TheVariants as sort
-use Rattle.jav_stmt.specs.declared.stmt.Place.TheVariants.{Item}
-use Rattle.jav_rules.specs.declared.unit.ImportList.{ImportList}
-use Rattle.jav_rules.specs.declared.words.Words.{Words as Modifiers}
-use Rattle.jav_rules.specs.MemberRules as member
-use Rattle.jav_rules.specs.MemberRules.{param_of, param, further_params, some_params, params, method_block, body_or_semi, method, constructor, fields, one_member, typed, may_construct, void_method, member_by, declared}
-use Rattle.jav_cursor.specs.Nodes.{text_of}
-use Rattle.jav_cursor.specs.Reading.{Parser}
-use Rattle.jav_stmt.specs.StmtRules.{stmt}
-use Rattle.jav_rules.specs.UnitRules as units
-use Rattle.jav_rules.specs.UnitRules.{further_imports, import_list, members, parent, class_body, class, unit}
-use Rattle.jav_rules.specs.WordRules.{no_words, fit_class, fit_field, fit_method, fit_member, is_word, and_word, take_word, words}
+use Rattle.jav_parse_cursor.specs.declared.limits.Limits.{Limits}
+use Rattle.jav_parse_unit.specs.declared.member.Front.{Front}
+use Rattle.jav_parse_cursor.specs.declared.sort.Sort.{Sort}
+use Rattle.jav_parse_cursor.specs.declared.sort.Sort.TheVariants as sort
+use Rattle.jav_parse_stmt.specs.declared.stmt.Place.TheVariants.{Item}
+use Rattle.jav_parse_unit.specs.declared.unit.ImportList.{ImportList}
+use Rattle.jav_parse_unit.specs.declared.words.Words.{Words as Modifiers}
+use Rattle.jav_parse_unit.specs.MemberRules as member
+use Rattle.jav_parse_unit.specs.MemberRules.{param_of, param, further_params, some_params, params, method_block, body_or_semi, method, constructor, fields, one_member, typed, may_construct, void_method, member_by, declared}
+use Rattle.jav_parse_cursor.specs.Nodes.{text_of}
+use Rattle.jav_parse_cursor.specs.Reading.{Parser}
+use Rattle.jav_parse_stmt.specs.StmtRules.{stmt}
+use Rattle.jav_parse_unit.specs.UnitRules as units
+use Rattle.jav_parse_unit.specs.UnitRules.{further_imports, import_list, members, parent, class_body, class, unit}
+use Rattle.jav_parse_unit.specs.WordRules.{no_words, fit_class, fit_field, fit_method, fit_member, is_word, and_word, take_word, words}
 use Rattle.jav_parse.proofs.Agree.{Agree, Same, Any, Turns, Enough, agree_pure, agree_refuse, agree_known, agree_with, agree_frame, agree_bind, agree_then, agree_if, agree_peek, agree_place, agree_when, agree_take, agree_expect, agree_self, take_agrees, agree_comments, enough, enough_for, turns, turned, agree_turns, agree_turns'}
 use Rattle.jav_parse.proofs.EnoughFlow.{agree_stmt}
 use Rattle.jav_parse.proofs.EnoughStmt.{BelowStmt, agree_variables, agree_block, agree_constructor_block}

@@ -5,15 +5,15 @@ use Rattle.jav_tree.specs.Tokens.{IsKeyword}
 use Rattle.jav_tree.specs.Types.{WholeType}
 use Rattle.jav_tree.specs.Expressions.{Expression}
 use Rattle.jav_tree.specs.Statements.{MayBeStatement}
-use Rattle.jav_expr.specs.declared.action.Lead.{Lead}
-use Rattle.jav_expr.specs.declared.action.Lead.TheVariants.{Declaration, Part}
-use Rattle.jav_cursor.specs.declared.limits.Limits.{Limits}
-use Rattle.jav_expr.specs.declared.primary.Goal.TheVariants as goal
-use Rattle.jav_cursor.specs.declared.tall.Tall.{Tall}
-use Rattle.jav_expr.specs.ActionRules.{action, acting_on, super_action, type_or_part}
-use Rattle.jav_expr.specs.ExprRules.{expr}
-use Rattle.jav_expr.specs.PrimaryRules.{arguments}
-use Rattle.jav_cursor.specs.TypeRules.{whole_type}
+use Rattle.jav_parse_expr.specs.declared.action.Lead.{Lead}
+use Rattle.jav_parse_expr.specs.declared.action.Lead.TheVariants.{Declaration, Part}
+use Rattle.jav_parse_cursor.specs.declared.limits.Limits.{Limits}
+use Rattle.jav_parse_expr.specs.declared.primary.Goal.TheVariants as goal
+use Rattle.jav_parse_cursor.specs.declared.tall.Tall.{Tall}
+use Rattle.jav_parse_expr.specs.ActionRules.{action, acting_on, super_action, type_or_part}
+use Rattle.jav_parse_expr.specs.ExprRules.{expr}
+use Rattle.jav_parse_expr.specs.PrimaryRules.{arguments}
+use Rattle.jav_parse_cursor.specs.TypeRules.{whole_type}
 use Rattle.jav_parse.proofs.Meets.{Spelling, Reads}
 use Rattle.jav_parse.proofs.Steps.{Tries}
 use Rattle.jav_parse.proofs.Within.{IsLevel, IsInit, AreArguments}

@@ -6,16 +6,16 @@ use Rattle.std.proofs.Math.Seq.{take-append_seam, drop-append_seam}
 use Rattle.std.specs.Global.{Global}
 use Rattle.mol_base.specs.Token.{Token}
 use Rattle.jav_tree.specs.Tokens.{IsComment}
-use Rattle.jav_rules.specs.BadToken.{Language, most_items, most_height, GoesOn, GoesOnAtAll, FaultAt, end_of, IsFault}
-use Rattle.jav_rules.specs.declared.fault.ParseFault.TheVariants as fault
-use Rattle.jav_rules.specs.declared.feature.Feature.{Feature}
-use Rattle.jav_cursor.specs.declared.limits.Limits.{Limits}
-use Rattle.jav_rules.specs.declared.reading.Language.{Language as Asked}
-use Rattle.jav_cursor.specs.declared.sort.Sort.TheVariants.{Comment}
-use Rattle.jav_rules.specs.Features.{feature_at}
-use Rattle.jav_cursor.specs.Reading.{Outcome, Parser}
-use Rattle.jav_cursor.specs.Sorts.{sort_of, same_sort}
-use Rattle.jav_rules.specs.WholeRules.{limits_for, unread, is_empty, is_whole, unread_as, enough, takes_all, by_feature, fault_of, wrong_at, wrong}
+use Rattle.jav_parse_unit.specs.BadToken.{Language, most_items, most_height, GoesOn, GoesOnAtAll, FaultAt, end_of, IsFault}
+use Rattle.jav_parse_unit.specs.declared.fault.ParseFault.TheVariants as fault
+use Rattle.jav_parse_unit.specs.declared.feature.Feature.{Feature}
+use Rattle.jav_parse_cursor.specs.declared.limits.Limits.{Limits}
+use Rattle.jav_parse_unit.specs.declared.reading.Language.{Language as Asked}
+use Rattle.jav_parse_cursor.specs.declared.sort.Sort.TheVariants.{Comment}
+use Rattle.jav_parse_unit.specs.Features.{feature_at}
+use Rattle.jav_parse_cursor.specs.Reading.{Outcome, Parser}
+use Rattle.jav_parse_cursor.specs.Sorts.{sort_of, same_sort}
+use Rattle.jav_parse_unit.specs.WholeRules.{limits_for, unread, is_empty, is_whole, unread_as, enough, takes_all, by_feature, fault_of, wrong_at, wrong}
 use Rattle.jav_parse.proofs.Agree.{Agree, Alike, Any, Enough, Turns}
 use Rattle.jav_parse.proofs.EnoughTypes.{LikeLimits}
 use Rattle.jav_parse.proofs.Lookahead.{SameHead, Keeps, Local}

@@ -2,19 +2,19 @@
 use Rattle.std.proofs.Common.{◌≡◌, inl, inr, ℕ, zero, suc, ◌<◌, ◌≤◌, true, false, List, [], ◌∷◌, ◌++◌, length, nat_le, nat_eq, Ok, refl, sym, ap, ap₂, ◌∙◌, subst, if◌then◌else◌, arith}
 use Rattle.std.proofs.lemmas.Bool.Decides.{nat_tests}
 use Rattle.mol_base.specs.Token.{Token}
-use Rattle.jav_cursor.specs.declared.limits.Limits.{Limits}
-use Rattle.jav_expr.specs.declared.primary.Rooms.{Rooms}
-use Rattle.jav_cursor.specs.declared.sort.Sort.{Sort}
-use Rattle.jav_cursor.specs.declared.sort.Sort.TheVariants as sort
-use Rattle.jav_cursor.specs.declared.tall.Tall.{Tall}
-use Rattle.jav_cursor.specs.declared.tall.Listed.{Listed}
-use Rattle.jav_cursor.specs.Nodes as made
-use Rattle.jav_cursor.specs.Nodes.{count_of}
-use Rattle.jav_expr.specs.PrimaryRules as rule
-use Rattle.jav_expr.specs.PrimaryRules.{Inside, is_link, arguments, call_on, member_named, index, chain, primary, part, named, named_item}
-use Rattle.jav_cursor.specs.Reading.{◌>>=◌, pure, refuse, sort as next, when_next}
-use Rattle.jav_cursor.specs.Sorts.{same_sort, sort_of}
-use Rattle.jav_cursor.specs.TypeRules.{further_names}
+use Rattle.jav_parse_cursor.specs.declared.limits.Limits.{Limits}
+use Rattle.jav_parse_expr.specs.declared.primary.Rooms.{Rooms}
+use Rattle.jav_parse_cursor.specs.declared.sort.Sort.{Sort}
+use Rattle.jav_parse_cursor.specs.declared.sort.Sort.TheVariants as sort
+use Rattle.jav_parse_cursor.specs.declared.tall.Tall.{Tall}
+use Rattle.jav_parse_cursor.specs.declared.tall.Listed.{Listed}
+use Rattle.jav_parse_cursor.specs.Nodes as made
+use Rattle.jav_parse_cursor.specs.Nodes.{count_of}
+use Rattle.jav_parse_expr.specs.PrimaryRules as rule
+use Rattle.jav_parse_expr.specs.PrimaryRules.{Inside, is_link, arguments, call_on, member_named, index, chain, primary, part, named, named_item}
+use Rattle.jav_parse_cursor.specs.Reading.{◌>>=◌, pure, refuse, sort as next, when_next}
+use Rattle.jav_parse_cursor.specs.Sorts.{same_sort, sort_of}
+use Rattle.jav_parse_cursor.specs.TypeRules.{further_names}
 use Rattle.jav_parse.proofs.ChainLinks.{dot_linked, item_linked, chain_ends, chain_more, linked, no_turn, link_dot_is, link_left_is}
 use Rattle.jav_parse.proofs.CompleteTypes.{dot_goes, names_end}
 use Rattle.jav_parse.proofs.NameChains.{Pairs, none, one_more, named_last, named_height, count_more, call_last, call_one}

@@ -5,11 +5,11 @@ use Rattle.jav_tree.specs.declared.expr.Expr.{Expr}
 use Rattle.jav_tree.specs.Expressions as grammar
 use Rattle.jav_tree.specs.Expressions.{Shape, Expression, Primary, BeforeDot, ArrayCreation, primary_before_dot, array_before_dot, Init, Items, value, braces, no_items, some_items, items_comma}
 use Rattle.jav_tree.specs.Operators.{BeginsWithSign}
-use Rattle.jav_cursor.specs.declared.sort.Sort.{Sort}
-use Rattle.jav_cursor.specs.declared.sort.Sort.TheVariants as sort
-use Rattle.jav_expr.specs.ExprRules.{begins_operand}
-use Rattle.jav_cursor.specs.Reading.{sort as next}
-use Rattle.jav_cursor.specs.Sorts.{same_sort}
+use Rattle.jav_parse_cursor.specs.declared.sort.Sort.{Sort}
+use Rattle.jav_parse_cursor.specs.declared.sort.Sort.TheVariants as sort
+use Rattle.jav_parse_expr.specs.ExprRules.{begins_operand}
+use Rattle.jav_parse_cursor.specs.Reading.{sort as next}
+use Rattle.jav_parse_cursor.specs.Sorts.{same_sort}
 use Rattle.jav_parse.proofs.ReadingSteps.{IsNot, BeginsPart}
 use Rattle.jav_parse.proofs.SortsOfTokens.{name_sort, literal_sort, this_sort, super_sort, new_sort, open_sort, begin_sort, step_sort, prefix_sort, is_prefix_sort, prefix_apart, step_sign}
 use Rattle.jav_parse.proofs.Written.{is_same}

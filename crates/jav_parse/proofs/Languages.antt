@@ -1,12 +1,12 @@
 -- The laws of the rules of the five languages that no relation is needed for.
 use Rattle.std.proofs.Common.{ℕ, ◌-◌, [], None, arith}
-use Rattle.jav_cursor.specs.declared.limits.Limits.{Limits}
-use Rattle.jav_expr.specs.declared.primary.Goal.TheVariants.{Level}
-use Rattle.jav_stmt.specs.declared.stmt.Place.TheVariants.{Item}
-use Rattle.jav_stmt.specs.StmtRules.{stmt}
-use Rattle.jav_cursor.specs.TypeRules.{whole_type}
-use Rattle.jav_rules.specs.UnitRules.{unit}
-use Rattle.jav_rules.specs.WholeRules.{declaration, body, expression}
+use Rattle.jav_parse_cursor.specs.declared.limits.Limits.{Limits}
+use Rattle.jav_parse_expr.specs.declared.primary.Goal.TheVariants.{Level}
+use Rattle.jav_parse_stmt.specs.declared.stmt.Place.TheVariants.{Item}
+use Rattle.jav_parse_stmt.specs.StmtRules.{stmt}
+use Rattle.jav_parse_cursor.specs.TypeRules.{whole_type}
+use Rattle.jav_parse_unit.specs.UnitRules.{unit}
+use Rattle.jav_parse_unit.specs.WholeRules.{declaration, body, expression}
 use Rattle.jav_parse.proofs.Agree.{Agree, Any, Enough, agree_pure, agree_with, agree_bind, agree_comments, enough, enough_for}
 use Rattle.jav_parse.proofs.EnoughExpr.{LikeGoal, agree_expr}
 use Rattle.jav_parse.proofs.EnoughFlow.{agree_stmt}

@@ -3,10 +3,10 @@ use Rattle.std.proofs.Common.{◌≡◌, ◌+◌, ◌-◌, ◌/◌, ◌≤◌, m
 use Rattle.std.proofs.lemmas.List.{length-take-le}
 use Rattle.std.proofs.lemmas.Bool.Decides.{nat_tests}
 use Rattle.mol_base.specs.Token.{Token}
-use Rattle.jav_cursor.specs.declared.tall.Shape.TheVariants.{Target}
-use Rattle.jav_cursor.specs.declared.tall.Tall.{Tall}
-use Rattle.jav_cursor.specs.declared.tall.Listed.{Listed}
-use Rattle.jav_cursor.specs.Nodes.{name, dotted_by, dotted, named, named_call, called, called_on, count_of, last_of}
+use Rattle.jav_parse_cursor.specs.declared.tall.Shape.TheVariants.{Target}
+use Rattle.jav_parse_cursor.specs.declared.tall.Tall.{Tall}
+use Rattle.jav_parse_cursor.specs.declared.tall.Listed.{Listed}
+use Rattle.jav_parse_cursor.specs.Nodes.{name, dotted_by, dotted, named, named_call, called, called_on, count_of, last_of}
 
 pub record LikeTall (x y : Tall) : Type 0 where
   pub height : x.height ≡ y.height

@@ -4,18 +4,18 @@ use Rattle.mol_base.specs.Token.{Token}
 use Rattle.jav_tree.specs.declared.types.TypeName.{TypeName}
 use Rattle.jav_tree.specs.declared.expr.Expr.{Expr}
 use Rattle.jav_tree.specs.Types.{Brackets, none, pair, array_of}
-use Rattle.jav_cursor.specs.declared.limits.Limits.{Limits}
-use Rattle.jav_expr.specs.declared.primary.Goal.TheVariants.{Level, Init}
-use Rattle.jav_expr.specs.declared.primary.Rooms.{Rooms}
-use Rattle.jav_cursor.specs.declared.sort.Sort.TheVariants as sort
-use Rattle.jav_cursor.specs.declared.tall.Tall.{Tall}
-use Rattle.jav_cursor.specs.declared.tall.Listed.{Listed}
-use Rattle.jav_expr.specs.ExprRules.{expr, inside}
-use Rattle.jav_cursor.specs.Nodes as made
-use Rattle.jav_expr.specs.PrimaryRules.{further_arguments, some_arguments, arguments_after, arguments, further_items, some_items, items_after, items, filled, empty_pairs, further_sizes, sized, array}
-use Rattle.jav_cursor.specs.Reading.{Outcome, Parser, and_then, ◌>>=◌, ◌>>◌, pure, sort as next, take_token, expect}
-use Rattle.jav_cursor.specs.Sorts.{same_sort, sort_of}
-use Rattle.jav_cursor.specs.TypeRules.{brackets}
+use Rattle.jav_parse_cursor.specs.declared.limits.Limits.{Limits}
+use Rattle.jav_parse_expr.specs.declared.primary.Goal.TheVariants.{Level, Init}
+use Rattle.jav_parse_expr.specs.declared.primary.Rooms.{Rooms}
+use Rattle.jav_parse_cursor.specs.declared.sort.Sort.TheVariants as sort
+use Rattle.jav_parse_cursor.specs.declared.tall.Tall.{Tall}
+use Rattle.jav_parse_cursor.specs.declared.tall.Listed.{Listed}
+use Rattle.jav_parse_expr.specs.ExprRules.{expr, inside}
+use Rattle.jav_parse_cursor.specs.Nodes as made
+use Rattle.jav_parse_expr.specs.PrimaryRules.{further_arguments, some_arguments, arguments_after, arguments, further_items, some_items, items_after, items, filled, empty_pairs, further_sizes, sized, array}
+use Rattle.jav_parse_cursor.specs.Reading.{Outcome, Parser, and_then, ◌>>=◌, ◌>>◌, pure, sort as next, take_token, expect}
+use Rattle.jav_parse_cursor.specs.Sorts.{same_sort, sort_of}
+use Rattle.jav_parse_cursor.specs.TypeRules.{brackets}
 use Rattle.jav_parse.proofs.CompleteTypes.{brackets_read, array_built}
 use Rattle.jav_parse.proofs.ReadingSteps.{IsNot, is_not, expect_goes, same_self, le_false, eq_false}
 use Rattle.jav_parse.proofs.SortsOfTokens.{left_sort, right_sort}

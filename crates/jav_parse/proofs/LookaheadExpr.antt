@@ -3,19 +3,19 @@
 use Rattle.std.proofs.Common.{ℕ, zero, suc, ◌-◌, nat_eq, List}
 use Rattle.mol_base.specs.Token.{Token}
 use Rattle.jav_tree.specs.declared.types.TypeName.{TypeName}
-use Rattle.jav_cursor.specs.declared.limits.Limits.{Limits}
-use Rattle.jav_expr.specs.declared.primary.Goal.{Goal}
-use Rattle.jav_expr.specs.declared.primary.Goal.TheVariants.{Level, Target, Init, After}
-use Rattle.jav_expr.specs.declared.primary.Rooms.{Rooms}
-use Rattle.jav_cursor.specs.declared.sort.Sort.{Sort}
-use Rattle.jav_cursor.specs.declared.sort.Sort.TheVariants as sort
-use Rattle.jav_cursor.specs.declared.tall.Tall.{Tall}
-use Rattle.jav_cursor.specs.declared.tall.Listed.{Listed}
-use Rattle.jav_expr.specs.ActionRules as acts
-use Rattle.jav_expr.specs.ActionRules.{ending, action, acting_on, super_action, indexed_or_array, lead_by, type_or_part, further_actions, actions_after, actions}
-use Rattle.jav_expr.specs.ExprRules.{inside_by, inside, step_after, postfix, assign_to, assignment, instance_of, binary, operation, climb, choice, operators, cast, array_cast, primitive_cast, after_parens, closed, goes_on, name_closed, opened_by, opened_name, opened_at, opened, prefixed, operand_by, operand, level, after, target, init, asked, expr}
-use Rattle.jav_expr.specs.PrimaryRules.{free, stepping, acting}
-use Rattle.jav_cursor.specs.Reading.{Parser}
+use Rattle.jav_parse_cursor.specs.declared.limits.Limits.{Limits}
+use Rattle.jav_parse_expr.specs.declared.primary.Goal.{Goal}
+use Rattle.jav_parse_expr.specs.declared.primary.Goal.TheVariants.{Level, Target, Init, After}
+use Rattle.jav_parse_expr.specs.declared.primary.Rooms.{Rooms}
+use Rattle.jav_parse_cursor.specs.declared.sort.Sort.{Sort}
+use Rattle.jav_parse_cursor.specs.declared.sort.Sort.TheVariants as sort
+use Rattle.jav_parse_cursor.specs.declared.tall.Tall.{Tall}
+use Rattle.jav_parse_cursor.specs.declared.tall.Listed.{Listed}
+use Rattle.jav_parse_expr.specs.ActionRules as acts
+use Rattle.jav_parse_expr.specs.ActionRules.{ending, action, acting_on, super_action, indexed_or_array, lead_by, type_or_part, further_actions, actions_after, actions}
+use Rattle.jav_parse_expr.specs.ExprRules.{inside_by, inside, step_after, postfix, assign_to, assignment, instance_of, binary, operation, climb, choice, operators, cast, array_cast, primitive_cast, after_parens, closed, goes_on, name_closed, opened_by, opened_name, opened_at, opened, prefixed, operand_by, operand, level, after, target, init, asked, expr}
+use Rattle.jav_parse_expr.specs.PrimaryRules.{free, stepping, acting}
+use Rattle.jav_parse_cursor.specs.Reading.{Parser}
 use Rattle.jav_parse.proofs.Lookahead.{Local, local_refuse, local_bind, local_if, local_when, steps}
 use Rattle.jav_parse.proofs.LookaheadPrimary.{LocalInside, local_items, local_super_call, local_chain, local_part, local_named, local_named_item}
 use Rattle.jav_parse.proofs.LookaheadTypes.{local_primitive, local_brackets, local_whole_type, local_qualified}

@@ -2,14 +2,14 @@
 use Rattle.std.proofs.Common.{ℕ, zero, suc, List}
 use Rattle.mol_base.specs.Token.{Token}
 use Rattle.jav_tree.specs.declared.types.TypeName.{TypeName}
-use Rattle.jav_cursor.specs.declared.limits.Limits.{Limits}
-use Rattle.jav_expr.specs.declared.primary.Rooms.{Rooms}
-use Rattle.jav_cursor.specs.declared.sort.Sort.{Sort}
-use Rattle.jav_cursor.specs.declared.sort.Sort.TheVariants as sort
-use Rattle.jav_cursor.specs.declared.tall.Tall.{Tall}
-use Rattle.jav_cursor.specs.declared.tall.Listed.{Listed}
-use Rattle.jav_expr.specs.PrimaryRules.{further_arguments, some_arguments, arguments_after, arguments, further_items, some_items, items_after, items, member_name, Inside, filled, empty_pairs, further_sizes, sized, array, creation, super_call, name, parens, primary_by, primary, call_on, member_named, member, index, item, link_by, link, chain, part, named, named_item}
-use Rattle.jav_cursor.specs.Reading.{Parser}
+use Rattle.jav_parse_cursor.specs.declared.limits.Limits.{Limits}
+use Rattle.jav_parse_expr.specs.declared.primary.Rooms.{Rooms}
+use Rattle.jav_parse_cursor.specs.declared.sort.Sort.{Sort}
+use Rattle.jav_parse_cursor.specs.declared.sort.Sort.TheVariants as sort
+use Rattle.jav_parse_cursor.specs.declared.tall.Tall.{Tall}
+use Rattle.jav_parse_cursor.specs.declared.tall.Listed.{Listed}
+use Rattle.jav_parse_expr.specs.PrimaryRules.{further_arguments, some_arguments, arguments_after, arguments, further_items, some_items, items_after, items, member_name, Inside, filled, empty_pairs, further_sizes, sized, array, creation, super_call, name, parens, primary_by, primary, call_on, member_named, member, index, item, link_by, link, chain, part, named, named_item}
+use Rattle.jav_parse_cursor.specs.Reading.{Parser}
 use Rattle.jav_parse.proofs.Lookahead.{Local, local_refuse, steps}
 use Rattle.jav_parse.proofs.LookaheadTypes.{local_primitive, local_base_type, local_brackets}
 

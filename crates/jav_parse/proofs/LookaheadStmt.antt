@@ -6,28 +6,28 @@ use Rattle.jav_tree.specs.declared.expr.Expr.{Expr}
 use Rattle.jav_tree.specs.declared.stmt.ForStart.{ForStart}
 use Rattle.jav_tree.specs.declared.stmt.StmtNode.{StmtNode}
 use Rattle.jav_tree.specs.declared.stmt.StmtNode.TheVariants as node
-use Rattle.jav_expr.specs.declared.action.Lead.{Lead}
-use Rattle.jav_expr.specs.declared.action.Lead.TheVariants.{Declaration, Part}
-use Rattle.jav_stmt.specs.declared.flow.HeaderPart.{HeaderPart}
-use Rattle.jav_stmt.specs.declared.flow.HeaderPart.TheVariants.{Start, Each}
-use Rattle.jav_stmt.specs.declared.flow.Maybe.{Maybe}
-use Rattle.jav_cursor.specs.declared.limits.Limits.{Limits}
-use Rattle.jav_stmt.specs.declared.local.VariableList.{VariableList}
-use Rattle.jav_expr.specs.declared.primary.Goal.TheVariants.{Level}
-use Rattle.jav_cursor.specs.declared.sort.Sort.{Sort}
-use Rattle.jav_cursor.specs.declared.sort.Sort.TheVariants as sort
-use Rattle.jav_stmt.specs.declared.stmt.Place.{Place}
-use Rattle.jav_stmt.specs.declared.stmt.Place.TheVariants.{Item, Branch, Plain, Chain}
-use Rattle.jav_stmt.specs.declared.stmt.Several.{Several}
-use Rattle.jav_stmt.specs.declared.stmt_tall.TallBlock.{TallBlock}
-use Rattle.jav_stmt.specs.declared.stmt_tall.TallStmt.{TallStmt}
-use Rattle.jav_cursor.specs.declared.tall.Tall.{Tall}
-use Rattle.jav_cursor.specs.declared.tall.Listed.{Listed}
-use Rattle.jav_expr.specs.ExprRules.{expr}
-use Rattle.jav_stmt.specs.LocalRules.{with_variable, further_variables, variables}
-use Rattle.jav_cursor.specs.Reading.{Parser}
-use Rattle.jav_stmt.specs.StmtRules as rules
-use Rattle.jav_stmt.specs.StmtRules.{condition, super_start, done, super_first, local_of, local, led, expression, return_stmt, throw_stmt, word_stmt, empty_stmt, header_let, header_of, header_led, header_named, header_by, header, for_test, updates, next_item, statements, block, from_super, constructor_block, branch, block_stmt, else_branch, chosen, if_stmt, while_stmt, counted_body, counted, each, for_by, for_stmt, plain_by, plain, item_by, item, if_at, standing, statement_at, stmt}
+use Rattle.jav_parse_expr.specs.declared.action.Lead.{Lead}
+use Rattle.jav_parse_expr.specs.declared.action.Lead.TheVariants.{Declaration, Part}
+use Rattle.jav_parse_stmt.specs.declared.flow.HeaderPart.{HeaderPart}
+use Rattle.jav_parse_stmt.specs.declared.flow.HeaderPart.TheVariants.{Start, Each}
+use Rattle.jav_parse_stmt.specs.declared.flow.Maybe.{Maybe}
+use Rattle.jav_parse_cursor.specs.declared.limits.Limits.{Limits}
+use Rattle.jav_parse_stmt.specs.declared.local.VariableList.{VariableList}
+use Rattle.jav_parse_expr.specs.declared.primary.Goal.TheVariants.{Level}
+use Rattle.jav_parse_cursor.specs.declared.sort.Sort.{Sort}
+use Rattle.jav_parse_cursor.specs.declared.sort.Sort.TheVariants as sort
+use Rattle.jav_parse_stmt.specs.declared.stmt.Place.{Place}
+use Rattle.jav_parse_stmt.specs.declared.stmt.Place.TheVariants.{Item, Branch, Plain, Chain}
+use Rattle.jav_parse_stmt.specs.declared.stmt.Several.{Several}
+use Rattle.jav_parse_stmt.specs.declared.stmt_tall.TallBlock.{TallBlock}
+use Rattle.jav_parse_stmt.specs.declared.stmt_tall.TallStmt.{TallStmt}
+use Rattle.jav_parse_cursor.specs.declared.tall.Tall.{Tall}
+use Rattle.jav_parse_cursor.specs.declared.tall.Listed.{Listed}
+use Rattle.jav_parse_expr.specs.ExprRules.{expr}
+use Rattle.jav_parse_stmt.specs.LocalRules.{with_variable, further_variables, variables}
+use Rattle.jav_parse_cursor.specs.Reading.{Parser}
+use Rattle.jav_parse_stmt.specs.StmtRules as rules
+use Rattle.jav_parse_stmt.specs.StmtRules.{condition, super_start, done, super_first, local_of, local, led, expression, return_stmt, throw_stmt, word_stmt, empty_stmt, header_let, header_of, header_led, header_named, header_by, header, for_test, updates, next_item, statements, block, from_super, constructor_block, branch, block_stmt, else_branch, chosen, if_stmt, while_stmt, counted_body, counted, each, for_by, for_stmt, plain_by, plain, item_by, item, if_at, standing, statement_at, stmt}
 use Rattle.jav_parse.proofs.Lookahead.{Local, local_refuse, local_bind, local_when, steps}
 use Rattle.jav_parse.proofs.LookaheadExpr.{local_expr, local_action, local_acting_on, local_super_action, local_type_or_part, local_actions, local_actions_after}
 use Rattle.jav_parse.proofs.LookaheadPrimary.{local_arguments}

@@ -2,8 +2,8 @@
 use Rattle.std.proofs.Common.{ℕ, zero, suc, List}
 use Rattle.mol_base.specs.Token.{Token}
 use Rattle.jav_tree.specs.declared.types.TypeName.{TypeName}
-use Rattle.jav_cursor.specs.declared.limits.Limits.{Limits}
-use Rattle.jav_cursor.specs.TypeRules.{further_names, qualified, primitive, base_type, brackets, type_after, whole_type}
+use Rattle.jav_parse_cursor.specs.declared.limits.Limits.{Limits}
+use Rattle.jav_parse_cursor.specs.TypeRules.{further_names, qualified, primitive, base_type, brackets, type_after, whole_type}
 use Rattle.jav_parse.proofs.Lookahead.{Local, steps}
 
 pub local_further_names : (n : ℕ) (names : List Token) → Local (further_names n names)

@@ -4,21 +4,21 @@ use Rattle.mol_base.specs.Token.{Token}
 use Rattle.jav_tree.specs.declared.types.TypeName.{TypeName}
 use Rattle.jav_tree.specs.declared.unit.Member.{Member}
 use Rattle.jav_tree.specs.declared.unit.Param.{Param}
-use Rattle.jav_cursor.specs.declared.limits.Limits.{Limits}
-use Rattle.jav_rules.specs.declared.member.Front.{Front}
-use Rattle.jav_cursor.specs.declared.sort.Sort.{Sort}
-use Rattle.jav_cursor.specs.declared.sort.Sort.TheVariants as sort
-use Rattle.jav_stmt.specs.declared.stmt.Place.TheVariants.{Item}
-use Rattle.jav_rules.specs.declared.unit.ImportList.{ImportList}
-use Rattle.jav_rules.specs.declared.words.Words.{Words as Modifiers}
-use Rattle.jav_rules.specs.MemberRules as member
-use Rattle.jav_rules.specs.MemberRules.{param_of, param, further_params, some_params, params, method_block, body_or_semi, method, constructor, fields, one_member, typed, void_method, member_by, declared}
-use Rattle.jav_cursor.specs.Reading.{Parser, ◌>>◌, refuse}
-use Rattle.jav_stmt.specs.StmtRules.{stmt}
-use Rattle.jav_rules.specs.UnitRules as units
-use Rattle.jav_rules.specs.UnitRules.{further_imports, import_list, members, parent, class_body, class, unit}
-use Rattle.jav_rules.specs.WordRules.{and_word, is_word, take_word, words}
-use Rattle.jav_cursor.specs.Reading.{is_override, expect_override}
+use Rattle.jav_parse_cursor.specs.declared.limits.Limits.{Limits}
+use Rattle.jav_parse_unit.specs.declared.member.Front.{Front}
+use Rattle.jav_parse_cursor.specs.declared.sort.Sort.{Sort}
+use Rattle.jav_parse_cursor.specs.declared.sort.Sort.TheVariants as sort
+use Rattle.jav_parse_stmt.specs.declared.stmt.Place.TheVariants.{Item}
+use Rattle.jav_parse_unit.specs.declared.unit.ImportList.{ImportList}
+use Rattle.jav_parse_unit.specs.declared.words.Words.{Words as Modifiers}
+use Rattle.jav_parse_unit.specs.MemberRules as member
+use Rattle.jav_parse_unit.specs.MemberRules.{param_of, param, further_params, some_params, params, method_block, body_or_semi, method, constructor, fields, one_member, typed, void_method, member_by, declared}
+use Rattle.jav_parse_cursor.specs.Reading.{Parser, ◌>>◌, refuse}
+use Rattle.jav_parse_stmt.specs.StmtRules.{stmt}
+use Rattle.jav_parse_unit.specs.UnitRules as units
+use Rattle.jav_parse_unit.specs.UnitRules.{further_imports, import_list, members, parent, class_body, class, unit}
+use Rattle.jav_parse_unit.specs.WordRules.{and_word, is_word, take_word, words}
+use Rattle.jav_parse_cursor.specs.Reading.{is_override, expect_override}
 use Rattle.jav_parse.proofs.Lookahead.{SameHead, Keeps, Local, local_refuse, local_bind, local_if, local_pure, local_then, local_take, local_when, local_peek, steps}
 use Rattle.jav_parse.proofs.LookaheadStmt.{local_variables, local_stmt, local_block, local_constructor_block}
 use Rattle.jav_parse.proofs.LookaheadTypes.{local_qualified, local_type_after, local_whole_type}

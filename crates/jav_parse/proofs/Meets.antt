@@ -3,10 +3,10 @@ use Rattle.std.proofs.Common.{◌≡◌, ℕ, Bool, true, false, List, [], ◌�
 use Rattle.std.proofs.lemmas.List.{append-nil}
 use Rattle.mol_base.specs.Token.{Token}
 use Rattle.jav_tree.specs.Tokens.{start_of}
-use Rattle.jav_cursor.specs.declared.sort.Sort.{Sort}
-use Rattle.jav_cursor.specs.declared.sort.Sort.TheVariants.{End}
-use Rattle.jav_cursor.specs.Sorts.{sort_of, same_sort}
-use Rattle.jav_cursor.specs.Reading.{Outcome, Parser, and_then, ◌>>=◌, pure, refuse, sort, peek, place, take_token, expect, when_next}
+use Rattle.jav_parse_cursor.specs.declared.sort.Sort.{Sort}
+use Rattle.jav_parse_cursor.specs.declared.sort.Sort.TheVariants.{End}
+use Rattle.jav_parse_cursor.specs.Sorts.{sort_of, same_sort}
+use Rattle.jav_parse_cursor.specs.Reading.{Outcome, Parser, and_then, ◌>>=◌, pure, refuse, sort, peek, place, take_token, expect, when_next}
 use Rattle.jav_parse.proofs.Written.{is_same}
 
 -- what some tokens spell

@@ -1,8 +1,8 @@
 -- Before what modifiers that fit may stand.
 use Rattle.std.proofs.Common.{◌≡◌, ℕ, ◌&&◌, ◌||◌, not, Bool, true, false, List, [], ◌∷◌, refl, sym, ◌∙◌}
 use Rattle.mol_base.specs.Modifiers.{ClassWords, FieldWords, MethodWords, AbstractWords, ConstructorWords, class_words, field_words, method_words, abstract_words, constructor_words}
-use Rattle.jav_rules.specs.declared.words.Words.{Words as Modifiers}
-use Rattle.jav_rules.specs.WordRules as rules
+use Rattle.jav_parse_unit.specs.declared.words.Words.{Words as Modifiers}
+use Rattle.jav_parse_unit.specs.WordRules as rules
 use Rattle.jav_parse.proofs.Modifiers.{Marked, allowed_by, abstract_is}
 
 first_no : (a b : Bool) → not (a || b) ≡ true → (a ≡ false) × (not b ≡ true)

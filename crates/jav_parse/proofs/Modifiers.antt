@@ -9,8 +9,8 @@ use Rattle.std.specs.Str.{bytes_eq}
 use Prim.Native.String.{String}
 use Rattle.mol_base.specs.Among.{among}
 use Rattle.mol_base.specs.Modifiers.{all_words, times, has, in_order, kept_of_method, AllowedWords, has_one_access}
-use Rattle.jav_rules.specs.declared.words.Words.{Words as Modifiers}
-use Rattle.jav_rules.specs.WordRules as rules
+use Rattle.jav_parse_unit.specs.declared.words.Words.{Words as Modifiers}
+use Rattle.jav_parse_unit.specs.WordRules as rules
 
 abbrev pub nine : List (List ℕ)
 nine = map codes all_words

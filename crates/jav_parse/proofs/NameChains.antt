@@ -3,11 +3,11 @@ use Rattle.std.proofs.Common.{◌≡◌, ◌+◌, ◌-◌, ◌/◌, ◌≤◌, t
 use Rattle.std.proofs.lemmas.Grind.{common_steps}
 use Rattle.std.proofs.lemmas.List.{length-append}
 use Rattle.mol_base.specs.Token.{Token}
-use Rattle.jav_cursor.specs.declared.tall.Shape.TheVariants.{Target}
-use Rattle.jav_cursor.specs.declared.tall.Tall.{Tall}
-use Rattle.jav_cursor.specs.declared.tall.Listed.{Listed}
-use Rattle.jav_cursor.specs.Nodes as made
-use Rattle.jav_cursor.specs.Nodes.{dotted, dotted_by, named, named_call, called_on, called, count_of, last_of}
+use Rattle.jav_parse_cursor.specs.declared.tall.Shape.TheVariants.{Target}
+use Rattle.jav_parse_cursor.specs.declared.tall.Tall.{Tall}
+use Rattle.jav_parse_cursor.specs.declared.tall.Listed.{Listed}
+use Rattle.jav_parse_cursor.specs.Nodes as made
+use Rattle.jav_parse_cursor.specs.Nodes.{dotted, dotted_by, named, named_call, called_on, called, count_of, last_of}
 use Rattle.jav_parse.proofs.ReadingSteps.{le_true}
 
 -- dots and names, in turn

@@ -1,26 +1,26 @@
 -- What stands in parentheses is read alike where names and casts are told apart first.
 use Rattle.std.proofs.Common.{◌≡◌, ◌⊎◌, inl, inr, ℕ, zero, suc, ◌-◌, ◌<◌, ◌≤◌, Bool, true, false, List, [], ◌∷◌, length, nat_le, nat_lt, Ok, Err, refl, sym, ap, ap₂, ◌∙◌, subst, arith}
 use Rattle.mol_base.specs.Token.{Token}
-use Rattle.jav_cursor.specs.declared.limits.Limits.{Limits}
-use Rattle.jav_expr.specs.declared.primary.Goal.{Goal}
-use Rattle.jav_expr.specs.declared.primary.Goal.TheVariants.{Level, After}
-use Rattle.jav_cursor.specs.declared.sort.Sort.{Sort}
-use Rattle.jav_cursor.specs.declared.sort.Sort.TheVariants as sort
-use Rattle.jav_cursor.specs.declared.tall.Tall.{Tall}
-use Rattle.jav_expr.specs.ExprRules.{begins_operand, inside_by, postfix, operators, after_parens, closed, goes_on, name_closed, opened_by, opened_name, opened_at, opened, operand_by, operand, level, after, expr}
-use Rattle.jav_cursor.specs.Nodes as made
-use Rattle.jav_cursor.specs.Nodes.{count_of}
-use Rattle.jav_expr.specs.PrimaryRules.{Inside, free, is_link, index, chain, primary, parens, part, named, named_item}
-use Rattle.jav_cursor.specs.Reading.{Outcome, Parser, and_then, ◌>>=◌, pure, sort as next, take_token, expect}
-use Rattle.jav_cursor.specs.Sorts.{same_sort, sort_of}
-use Rattle.jav_cursor.specs.TypeRules.{qualified}
+use Rattle.jav_parse_cursor.specs.declared.limits.Limits.{Limits}
+use Rattle.jav_parse_expr.specs.declared.primary.Goal.{Goal}
+use Rattle.jav_parse_expr.specs.declared.primary.Goal.TheVariants.{Level, After}
+use Rattle.jav_parse_cursor.specs.declared.sort.Sort.{Sort}
+use Rattle.jav_parse_cursor.specs.declared.sort.Sort.TheVariants as sort
+use Rattle.jav_parse_cursor.specs.declared.tall.Tall.{Tall}
+use Rattle.jav_parse_expr.specs.ExprRules.{begins_operand, inside_by, postfix, operators, after_parens, closed, goes_on, name_closed, opened_by, opened_name, opened_at, opened, operand_by, operand, level, after, expr}
+use Rattle.jav_parse_cursor.specs.Nodes as made
+use Rattle.jav_parse_cursor.specs.Nodes.{count_of}
+use Rattle.jav_parse_expr.specs.PrimaryRules.{Inside, free, is_link, index, chain, primary, parens, part, named, named_item}
+use Rattle.jav_parse_cursor.specs.Reading.{Outcome, Parser, and_then, ◌>>=◌, pure, sort as next, take_token, expect}
+use Rattle.jav_parse_cursor.specs.Sorts.{same_sort, sort_of}
+use Rattle.jav_parse_cursor.specs.TypeRules.{qualified}
 use Rattle.jav_parse.proofs.ChainLinks.{chain_ends}
 use Rattle.jav_parse.proofs.CompleteTypes.{first_name}
 use Rattle.jav_parse.proofs.FirstNames.{Goes, by_part, by_item, first_names}
 use Rattle.jav_parse.proofs.OperatorSteps.{postfix_ends, operators_end}
 use Rattle.jav_parse.proofs.Outcomes.{steps, Same, ok_same, not_refused, sort_or, expected, take_ok, le_false_is, lt_false_is}
 use Rattle.jav_parse.proofs.ReadingSteps.{IsNot, is_not, expect_goes, le_false, ends_at, sort_at, BeginsPart}
-use Rattle.jav_expr.proofs.AtHeight.{expr_is}
+use Rattle.jav_parse_expr.proofs.AtHeight.{expr_is}
 
 -- two sorts with which no expression begins
 abbrev Apart : List Token → Type 0

@@ -2,18 +2,18 @@
 use Rattle.std.proofs.Common.{◌≡◌, ◌⊎◌, inl, inr, ℕ, zero, suc, ◌+◌, ◌<◌, ◌≤◌, Bool, true, false, ◌||◌, ◌&&◌, max, List, ◌∷◌, nat_le, Ok, refl, sym, ap, ◌∙◌, subst, if◌then◌else◌, arith}
 use Rattle.mol_base.specs.Token.{Token}
 use Rattle.jav_tree.specs.declared.types.TypeName.{TypeName}
-use Rattle.jav_cursor.specs.declared.limits.Limits.{Limits}
-use Rattle.jav_expr.specs.declared.primary.Goal.{Goal}
-use Rattle.jav_expr.specs.declared.primary.Goal.TheVariants.{Level}
-use Rattle.jav_cursor.specs.declared.sort.Sort.{Sort}
-use Rattle.jav_cursor.specs.declared.sort.Sort.TheVariants as sort
-use Rattle.jav_cursor.specs.declared.tall.Tall.{Tall}
-use Rattle.jav_expr.specs.ExprRules.{level_of, is_assignment, step_after, postfix, assign_to, assignment, instance_of, binary, operation, climb, choice, operators}
-use Rattle.jav_cursor.specs.Nodes as made
-use Rattle.jav_cursor.specs.Nodes.{is_target}
-use Rattle.jav_cursor.specs.Reading.{Parser, and_then, ◌>>=◌, pure, sort as next, peek, take_token}
-use Rattle.jav_cursor.specs.Sorts.{same_sort, sort_of}
-use Rattle.jav_cursor.specs.TypeRules.{whole_type}
+use Rattle.jav_parse_cursor.specs.declared.limits.Limits.{Limits}
+use Rattle.jav_parse_expr.specs.declared.primary.Goal.{Goal}
+use Rattle.jav_parse_expr.specs.declared.primary.Goal.TheVariants.{Level}
+use Rattle.jav_parse_cursor.specs.declared.sort.Sort.{Sort}
+use Rattle.jav_parse_cursor.specs.declared.sort.Sort.TheVariants as sort
+use Rattle.jav_parse_cursor.specs.declared.tall.Tall.{Tall}
+use Rattle.jav_parse_expr.specs.ExprRules.{level_of, is_assignment, step_after, postfix, assign_to, assignment, instance_of, binary, operation, climb, choice, operators}
+use Rattle.jav_parse_cursor.specs.Nodes as made
+use Rattle.jav_parse_cursor.specs.Nodes.{is_target}
+use Rattle.jav_parse_cursor.specs.Reading.{Parser, and_then, ◌>>=◌, pure, sort as next, peek, take_token}
+use Rattle.jav_parse_cursor.specs.Sorts.{same_sort, sort_of}
+use Rattle.jav_parse_cursor.specs.TypeRules.{whole_type}
 use Rattle.jav_parse.proofs.ReadingSteps.{IsNot, expect_goes, same_self, lt_true, lt_false, le_true, le_false, binds, Ends, ends_not, ends_level}
 use Rattle.jav_parse.proofs.SortsOfTokens.{IsOperator}
 

@@ -2,9 +2,9 @@
 use Rattle.std.proofs.Common.{◌≡◌, ◌⊎◌, inl, inr, ℕ, ◌<◌, ◌≤◌, Bool, true, false, List, [], ◌∷◌, Ok, Err, refl, sym, ap, ap₂, ◌∙◌, if◌then◌else◌, nat_lt, nat_le, arith}
 use Rattle.std.proofs.lemmas.Bool.Decides.{nat_tests}
 use Rattle.mol_base.specs.Token.{Token}
-use Rattle.jav_cursor.specs.declared.sort.Sort.{Sort}
-use Rattle.jav_cursor.specs.Reading.{Outcome, Parser, and_then, refuse, sort as next, take_token, expect, when_next}
-use Rattle.jav_cursor.specs.Sorts.{same_sort, sort_of}
+use Rattle.jav_parse_cursor.specs.declared.sort.Sort.{Sort}
+use Rattle.jav_parse_cursor.specs.Reading.{Outcome, Parser, and_then, refuse, sort as next, take_token, expect, when_next}
+use Rattle.jav_parse_cursor.specs.Sorts.{same_sort, sort_of}
 use Rattle.jav_parse.proofs.ReadingSteps.{IsNot}
 use Rattle.jav_parse.proofs.Written.{is_same}
 

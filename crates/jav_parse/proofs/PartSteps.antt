@@ -3,22 +3,22 @@ use Rattle.std.proofs.Common.{◌≡◌, inl, inr, ℕ, zero, suc, ◌+◌, ◌-
 use Rattle.mol_base.specs.Token.{Token}
 use Rattle.jav_tree.specs.declared.types.TypeName.{TypeName}
 use Rattle.jav_tree.specs.declared.expr.Expr.{Expr}
-use Rattle.jav_cursor.specs.declared.limits.Limits.{Limits}
-use Rattle.jav_expr.specs.declared.primary.Goal.TheVariants.{Level}
-use Rattle.jav_expr.specs.declared.primary.Rooms.{Rooms}
-use Rattle.jav_cursor.specs.declared.sort.Sort.TheVariants as sort
-use Rattle.jav_cursor.specs.declared.tall.Shape.{Shape}
-use Rattle.jav_cursor.specs.declared.tall.Shape.TheVariants.{Target, Invocation}
-use Rattle.jav_cursor.specs.declared.tall.Tall.{Tall}
-use Rattle.jav_cursor.specs.declared.tall.Listed.{Listed}
-use Rattle.jav_expr.specs.ExprRules.{expr, inside}
-use Rattle.jav_cursor.specs.Nodes as made
-use Rattle.jav_cursor.specs.Nodes.{is_array}
-use Rattle.jav_expr.specs.PrimaryRules as rule
-use Rattle.jav_expr.specs.PrimaryRules.{free, acting, stepping, is_link, arguments, member_name, call_on, member_named, member, index, item, link, chain, primary, part, creation, super_call, parens, array}
-use Rattle.jav_cursor.specs.Reading.{and_then, sort as next, take_token}
-use Rattle.jav_cursor.specs.Sorts.{same_sort, sort_of}
-use Rattle.jav_cursor.specs.TypeRules.{base_type, primitive}
+use Rattle.jav_parse_cursor.specs.declared.limits.Limits.{Limits}
+use Rattle.jav_parse_expr.specs.declared.primary.Goal.TheVariants.{Level}
+use Rattle.jav_parse_expr.specs.declared.primary.Rooms.{Rooms}
+use Rattle.jav_parse_cursor.specs.declared.sort.Sort.TheVariants as sort
+use Rattle.jav_parse_cursor.specs.declared.tall.Shape.{Shape}
+use Rattle.jav_parse_cursor.specs.declared.tall.Shape.TheVariants.{Target, Invocation}
+use Rattle.jav_parse_cursor.specs.declared.tall.Tall.{Tall}
+use Rattle.jav_parse_cursor.specs.declared.tall.Listed.{Listed}
+use Rattle.jav_parse_expr.specs.ExprRules.{expr, inside}
+use Rattle.jav_parse_cursor.specs.Nodes as made
+use Rattle.jav_parse_cursor.specs.Nodes.{is_array}
+use Rattle.jav_parse_expr.specs.PrimaryRules as rule
+use Rattle.jav_parse_expr.specs.PrimaryRules.{free, acting, stepping, is_link, arguments, member_name, call_on, member_named, member, index, item, link, chain, primary, part, creation, super_call, parens, array}
+use Rattle.jav_parse_cursor.specs.Reading.{and_then, sort as next, take_token}
+use Rattle.jav_parse_cursor.specs.Sorts.{same_sort, sort_of}
+use Rattle.jav_parse_cursor.specs.TypeRules.{base_type, primitive}
 use Rattle.jav_parse.proofs.ChainLinks.{chain_ends, chain_link, link_dot_is, link_left_is}
 use Rattle.jav_parse.proofs.Outcomes.{sort_or}
 use Rattle.jav_parse.proofs.ReadingSteps.{IsNot, expect_goes, le_false, eq_false, sort_at}

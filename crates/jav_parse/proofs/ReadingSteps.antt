@@ -4,13 +4,13 @@ use Rattle.std.proofs.lemmas.Bool.Decides.{nat_tests}
 use Rattle.std.proofs.lemmas.List.{length-append}
 use denote.Enum.Bare.{true_same}
 use Rattle.mol_base.specs.Token.{Token}
-use Rattle.jav_cursor.specs.contracts.sort.Sort.{the_type}
-use Rattle.jav_cursor.specs.declared.sort.Sort.{Sort}
-use Rattle.jav_cursor.specs.declared.sort.Sort.TheVariants as sort
-use Rattle.jav_expr.specs.ExprRules.{level_of, begins_operand}
-use Rattle.jav_expr.specs.PrimaryRules.{is_link}
-use Rattle.jav_cursor.specs.Reading.{Parser, sort, take_token, expect, when_next}
-use Rattle.jav_cursor.specs.Sorts.{same_sort, sort_of}
+use Rattle.jav_parse_cursor.specs.contracts.sort.Sort.{the_type}
+use Rattle.jav_parse_cursor.specs.declared.sort.Sort.{Sort}
+use Rattle.jav_parse_cursor.specs.declared.sort.Sort.TheVariants as sort
+use Rattle.jav_parse_expr.specs.ExprRules.{level_of, begins_operand}
+use Rattle.jav_parse_expr.specs.PrimaryRules.{is_link}
+use Rattle.jav_parse_cursor.specs.Reading.{Parser, sort, take_token, expect, when_next}
+use Rattle.jav_parse_cursor.specs.Sorts.{same_sort, sort_of}
 use Rattle.jav_parse.proofs.Written.{is_same}
 
 pub same_self : (s : Sort) → same_sort s s ≡ true

@@ -3,8 +3,8 @@ use Rattle.std.proofs.Common.{codes, refl}
 use Prim.Native.String.{String}
 use Rattle.mol_base.specs.Token.{Token}
 use Rattle.mol_base.specs.declared.token_kind.TokenKind.TheVariants as kind
-use Rattle.jav_cursor.specs.declared.sort.Sort.TheVariants as sort
-use Rattle.jav_cursor.specs.Sorts.{sort_of}
+use Rattle.jav_parse_cursor.specs.declared.sort.Sort.TheVariants as sort
+use Rattle.jav_parse_cursor.specs.Sorts.{sort_of}
 use Rattle.jav_parse.proofs.Meets.{Sample}
 
 pub a_symbol : String → Token

@@ -11,10 +11,10 @@ use Rattle.jav_tree.specs.Operators.{binary_level, IsBinary, IsAssignment, IsSte
 use Rattle.jav_tree.specs.Tokens.{IsSymbol, IsKeyword, IsName, IsLiteral, IsComment}
 use Rattle.jav_tree.specs.Types as types
 use Rattle.jav_tree.specs.Types.{IsPrimitive}
-use Rattle.jav_cursor.specs.declared.sort.Sort.{Sort}
-use Rattle.jav_cursor.specs.declared.sort.Sort.TheVariants as sort
-use Rattle.jav_expr.specs.ExprRules.{level_of, is_assignment, begins_operand}
-use Rattle.jav_cursor.specs.Sorts.{same_sort, looked_up, symbols, keywords, sort_of}
+use Rattle.jav_parse_cursor.specs.declared.sort.Sort.{Sort}
+use Rattle.jav_parse_cursor.specs.declared.sort.Sort.TheVariants as sort
+use Rattle.jav_parse_expr.specs.ExprRules.{level_of, is_assignment, begins_operand}
+use Rattle.jav_parse_cursor.specs.Sorts.{same_sort, looked_up, symbols, keywords, sort_of}
 use Rattle.jav_parse.proofs.Written.{is_same}
 
 -- ---- one text

@@ -12,23 +12,23 @@ use Rattle.jav_tree.specs.Expressions as tree
 use Rattle.jav_tree.specs.Expressions.{Expression, Primary}
 use Rattle.jav_tree.specs.Statements.{MayBeStatement}
 use Rattle.jav_tree.proofs.StatementExpressions.{statement-Call, statement-SuperCall, statement-New, statement-Assign, statement-Unary, statement-Post}
-use Rattle.jav_expr.specs.declared.action.Lead.TheVariants.{Declaration, Part}
-use Rattle.jav_cursor.specs.declared.limits.Limits.{Limits}
-use Rattle.jav_expr.specs.declared.primary.Goal.TheVariants as goals
-use Rattle.jav_cursor.specs.declared.sort.Sort.{Sort}
-use Rattle.jav_cursor.specs.declared.sort.Sort.TheVariants as sort
-use Rattle.jav_cursor.specs.declared.tall.Shape.{Shape}
-use Rattle.jav_cursor.specs.declared.tall.Shape.TheVariants.{Target, Invocation, Atom, Array, Loose}
-use Rattle.jav_cursor.specs.declared.tall.Tall.{Tall}
-use Rattle.jav_cursor.specs.Nodes as made
-use Rattle.jav_cursor.specs.Nodes.{is_target, is_invocation, text_of, array_type}
-use Rattle.jav_expr.specs.PrimaryRules as primaries
-use Rattle.jav_expr.specs.PrimaryRules.{acting}
-use Rattle.jav_expr.specs.ActionRules.{ending, goes_on, acts, action, acting_on, super_action, indexed_or_array, lead_by, type_or_part}
-use Rattle.jav_expr.specs.ExprRules.{expr, inside, is_assignment, step_after, assign_to, assignment, prefixed}
-use Rattle.jav_cursor.specs.Reading.{◌>>=◌, peek, pure, refuse}
-use Rattle.jav_cursor.specs.Sorts.{sort_of, same_sort}
-use Rattle.jav_cursor.specs.TypeRules.{brackets}
+use Rattle.jav_parse_expr.specs.declared.action.Lead.TheVariants.{Declaration, Part}
+use Rattle.jav_parse_cursor.specs.declared.limits.Limits.{Limits}
+use Rattle.jav_parse_expr.specs.declared.primary.Goal.TheVariants as goals
+use Rattle.jav_parse_cursor.specs.declared.sort.Sort.{Sort}
+use Rattle.jav_parse_cursor.specs.declared.sort.Sort.TheVariants as sort
+use Rattle.jav_parse_cursor.specs.declared.tall.Shape.{Shape}
+use Rattle.jav_parse_cursor.specs.declared.tall.Shape.TheVariants.{Target, Invocation, Atom, Array, Loose}
+use Rattle.jav_parse_cursor.specs.declared.tall.Tall.{Tall}
+use Rattle.jav_parse_cursor.specs.Nodes as made
+use Rattle.jav_parse_cursor.specs.Nodes.{is_target, is_invocation, text_of, array_type}
+use Rattle.jav_parse_expr.specs.PrimaryRules as primaries
+use Rattle.jav_parse_expr.specs.PrimaryRules.{acting}
+use Rattle.jav_parse_expr.specs.ActionRules.{ending, goes_on, acts, action, acting_on, super_action, indexed_or_array, lead_by, type_or_part}
+use Rattle.jav_parse_expr.specs.ExprRules.{expr, inside, is_assignment, step_after, assign_to, assignment, prefixed}
+use Rattle.jav_parse_cursor.specs.Reading.{◌>>=◌, peek, pure, refuse}
+use Rattle.jav_parse_cursor.specs.Sorts.{sort_of, same_sort}
+use Rattle.jav_parse_cursor.specs.TypeRules.{brackets}
 use Rattle.jav_parse.proofs.ExpressionLaws.{IsAction, IsLead, ExpressionLaws}
 use Rattle.jav_parse.proofs.Meets.{Some_of, some_of, ReadsAt, Reads, reads_pure, reads_refuse, reads_map, reads_bind, reads_made, reads_if, reads_when, reads_where, reads_any, reads_token, reads_expect, reads_peek}
 use Rattle.jav_parse.proofs.Samples.{a_name, a_dot, a_right}

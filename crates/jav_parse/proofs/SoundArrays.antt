@@ -11,16 +11,16 @@ use Rattle.jav_tree.specs.Expressions as tree
 use Rattle.jav_tree.specs.Expressions.{Expression, ArrayCreation, Sizes, expr_at}
 use Rattle.jav_tree.specs.Types as types
 use Rattle.jav_tree.specs.Types.{BaseType, Brackets, array_of}
-use Rattle.jav_cursor.specs.declared.limits.Limits.{Limits}
-use Rattle.jav_expr.specs.declared.primary.Rooms.{Rooms}
-use Rattle.jav_cursor.specs.declared.sort.Sort.{Sort}
-use Rattle.jav_cursor.specs.declared.sort.Sort.TheVariants as sort
-use Rattle.jav_cursor.specs.declared.tall.Tall.{Tall}
-use Rattle.jav_cursor.specs.declared.tall.Listed.{Listed}
-use Rattle.jav_cursor.specs.Nodes as made
-use Rattle.jav_cursor.specs.Nodes.{array_type}
-use Rattle.jav_expr.specs.PrimaryRules.{Inside, filled, empty_pairs, further_sizes, sized, array}
-use Rattle.jav_cursor.specs.Sorts.{sort_of}
+use Rattle.jav_parse_cursor.specs.declared.limits.Limits.{Limits}
+use Rattle.jav_parse_expr.specs.declared.primary.Rooms.{Rooms}
+use Rattle.jav_parse_cursor.specs.declared.sort.Sort.{Sort}
+use Rattle.jav_parse_cursor.specs.declared.sort.Sort.TheVariants as sort
+use Rattle.jav_parse_cursor.specs.declared.tall.Tall.{Tall}
+use Rattle.jav_parse_cursor.specs.declared.tall.Listed.{Listed}
+use Rattle.jav_parse_cursor.specs.Nodes as made
+use Rattle.jav_parse_cursor.specs.Nodes.{array_type}
+use Rattle.jav_parse_expr.specs.PrimaryRules.{Inside, filled, empty_pairs, further_sizes, sized, array}
+use Rattle.jav_parse_cursor.specs.Sorts.{sort_of}
 use Rattle.jav_parse.proofs.Meets.{Some_of, some_of, ReadsAt, Reads, reads_pure, reads_refuse, reads_map, reads_bind, reads_made, reads_if, reads_when, reads_any, reads_token, reads_expect}
 use Rattle.jav_parse.proofs.Samples.{a_left, a_right}
 use Rattle.jav_parse.proofs.SoundLists.{reads_items}

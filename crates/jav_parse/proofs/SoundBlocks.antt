@@ -9,13 +9,13 @@ use Rattle.jav_tree.specs.Tokens.{IsSymbol, Comments, start_of}
 use Rattle.jav_tree.specs.Tokens as notes
 use Rattle.jav_tree.specs.Statements as stmts
 use Rattle.jav_tree.specs.Statements.{Single, Statements, BlockOf, ConstructorBlock, SuperStart, commented, with_front, fronted, tailed}
-use Rattle.jav_cursor.specs.declared.limits.Limits.{Limits}
-use Rattle.jav_cursor.specs.declared.sort.Sort.TheVariants as sort
-use Rattle.jav_stmt.specs.declared.stmt.Several.{Several}
-use Rattle.jav_stmt.specs.declared.stmt_tall.TallBlock.{TallBlock}
-use Rattle.jav_stmt.specs.declared.stmt_tall.TallStmt.{TallStmt}
-use Rattle.jav_cursor.specs.Reading.{Parser}
-use Rattle.jav_stmt.specs.StmtRules.{nothing, added_to, braced, next_item, statements, block, from_super, constructor_block}
+use Rattle.jav_parse_cursor.specs.declared.limits.Limits.{Limits}
+use Rattle.jav_parse_cursor.specs.declared.sort.Sort.TheVariants as sort
+use Rattle.jav_parse_stmt.specs.declared.stmt.Several.{Several}
+use Rattle.jav_parse_stmt.specs.declared.stmt_tall.TallBlock.{TallBlock}
+use Rattle.jav_parse_stmt.specs.declared.stmt_tall.TallStmt.{TallStmt}
+use Rattle.jav_parse_cursor.specs.Reading.{Parser}
+use Rattle.jav_parse_stmt.specs.StmtRules.{nothing, added_to, braced, next_item, statements, block, from_super, constructor_block}
 use Rattle.jav_parse.proofs.ExpressionLaws.{ExpressionLaws}
 use Rattle.jav_parse.proofs.Meets.{Spelling, ReadsAt, Reads, some_of, reads_pure, reads_refuse, reads_map, reads_if, reads_any, reads_bind, reads_made, reads_token, reads_when}
 use Rattle.jav_parse.proofs.SoundComments.{Noted, reads_comments, comments_after}

@@ -9,17 +9,17 @@ use Rattle.jav_tree.specs.Tokens.{IsSymbol, IsKeyword, Comments, start_of}
 use Rattle.jav_tree.specs.Tokens as spelled
 use Rattle.jav_tree.specs.Statements as stmts
 use Rattle.jav_tree.specs.Statements.{Plain, Choice, Otherwise, Branch, Enclosed, BlockOf, commented, stmt_at, fronted, tailed}
-use Rattle.jav_stmt.specs.declared.flow.TallElse.{TallElse}
-use Rattle.jav_cursor.specs.declared.limits.Limits.{Limits}
-use Rattle.jav_cursor.specs.declared.sort.Sort.TheVariants as sort
-use Rattle.jav_stmt.specs.declared.stmt.Place.{Place}
-use Rattle.jav_stmt.specs.declared.stmt.Place.TheVariants as place
-use Rattle.jav_stmt.specs.declared.stmt_tall.TallBlock.{TallBlock}
-use Rattle.jav_stmt.specs.declared.stmt_tall.TallStmt.{TallStmt}
-use Rattle.jav_cursor.specs.declared.tall.Tall.{Tall}
-use Rattle.jav_cursor.specs.Reading.{Parser, ◌>>=◌, take_token}
-use Rattle.jav_cursor.specs.Sorts.{same_sort}
-use Rattle.jav_stmt.specs.StmtRules.{condition, wrapped, branch, else_branch, chained, second_branch, short_if, long_if, chosen}
+use Rattle.jav_parse_stmt.specs.declared.flow.TallElse.{TallElse}
+use Rattle.jav_parse_cursor.specs.declared.limits.Limits.{Limits}
+use Rattle.jav_parse_cursor.specs.declared.sort.Sort.TheVariants as sort
+use Rattle.jav_parse_stmt.specs.declared.stmt.Place.{Place}
+use Rattle.jav_parse_stmt.specs.declared.stmt.Place.TheVariants as place
+use Rattle.jav_parse_stmt.specs.declared.stmt_tall.TallBlock.{TallBlock}
+use Rattle.jav_parse_stmt.specs.declared.stmt_tall.TallStmt.{TallStmt}
+use Rattle.jav_parse_cursor.specs.declared.tall.Tall.{Tall}
+use Rattle.jav_parse_cursor.specs.Reading.{Parser, ◌>>=◌, take_token}
+use Rattle.jav_parse_cursor.specs.Sorts.{same_sort}
+use Rattle.jav_parse_stmt.specs.StmtRules.{condition, wrapped, branch, else_branch, chained, second_branch, short_if, long_if, chosen}
 use Rattle.jav_parse.proofs.ExpressionLaws.{ExpressionLaws}
 use Rattle.jav_parse.proofs.Meets.{ReadsAt, Reads, some_of, reads_pure, reads_refuse, reads_map, reads_if, reads_any, reads_where, reads_bind, reads_token, reads_peek, reads_when}
 use Rattle.jav_parse.proofs.SoundBlocks.{Braces, reads_block}

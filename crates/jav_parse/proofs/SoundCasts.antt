@@ -10,19 +10,19 @@ use Rattle.jav_tree.specs.Expressions.{Expression, Primary, MayBeCast}
 use Rattle.jav_tree.specs.Types as types
 use Rattle.jav_tree.specs.Types.{WholeType, array_of, is_primitive}
 use Rattle.jav_tree.proofs.PrimitiveTypes.{primitive-Prim}
-use Rattle.jav_cursor.specs.declared.limits.Limits.{Limits}
-use Rattle.jav_expr.specs.declared.primary.Goal.{Goal}
-use Rattle.jav_expr.specs.declared.primary.Goal.TheVariants.{Level}
-use Rattle.jav_cursor.specs.declared.sort.Sort.{Sort}
-use Rattle.jav_cursor.specs.declared.sort.Sort.TheVariants as sort
-use Rattle.jav_cursor.specs.declared.tall.Tall.{Tall}
-use Rattle.jav_cursor.specs.Nodes as made
-use Rattle.jav_cursor.specs.Nodes.{count_of, text_of, array_type}
-use Rattle.jav_expr.specs.PrimaryRules.{free, named, named_item}
-use Rattle.jav_cursor.specs.TypeRules.{brackets}
-use Rattle.jav_expr.specs.ExprRules.{begins_operand, inside_by, cast, array_cast, primitive_cast, after_parens, closed, goes_on, name_closed, opened_by, opened_name, opened_at, opened}
-use Rattle.jav_cursor.specs.Reading.{Parser, Outcome, sort as next_sort, ◌>>=◌, peek}
-use Rattle.jav_cursor.specs.Sorts.{sort_of}
+use Rattle.jav_parse_cursor.specs.declared.limits.Limits.{Limits}
+use Rattle.jav_parse_expr.specs.declared.primary.Goal.{Goal}
+use Rattle.jav_parse_expr.specs.declared.primary.Goal.TheVariants.{Level}
+use Rattle.jav_parse_cursor.specs.declared.sort.Sort.{Sort}
+use Rattle.jav_parse_cursor.specs.declared.sort.Sort.TheVariants as sort
+use Rattle.jav_parse_cursor.specs.declared.tall.Tall.{Tall}
+use Rattle.jav_parse_cursor.specs.Nodes as made
+use Rattle.jav_parse_cursor.specs.Nodes.{count_of, text_of, array_type}
+use Rattle.jav_parse_expr.specs.PrimaryRules.{free, named, named_item}
+use Rattle.jav_parse_cursor.specs.TypeRules.{brackets}
+use Rattle.jav_parse_expr.specs.ExprRules.{begins_operand, inside_by, cast, array_cast, primitive_cast, after_parens, closed, goes_on, name_closed, opened_by, opened_name, opened_at, opened}
+use Rattle.jav_parse_cursor.specs.Reading.{Parser, Outcome, sort as next_sort, ◌>>=◌, peek}
+use Rattle.jav_parse_cursor.specs.Sorts.{sort_of}
 use Rattle.jav_parse.proofs.Meets.{Spelling, Meets, Some_of, some_of, ReadsAt, Reads, reads_refuse, reads_map, reads_bind, reads_made, reads_if, reads_when, reads_any, reads_token, reads_expect, reads_peek}
 use Rattle.jav_parse.proofs.Samples.{a_name, a_close, a_right}
 use Rattle.jav_parse.proofs.SoundNamed.{reads_named, reads_named_item}

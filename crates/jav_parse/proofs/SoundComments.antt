@@ -3,8 +3,8 @@ use Rattle.std.proofs.Common.{◌≡◌, ℕ, zero, suc, List, [], ◌∷◌, �
 use Rattle.std.proofs.lemmas.List.{append-nil}
 use Rattle.mol_base.specs.Token.{Token}
 use Rattle.jav_tree.specs.Tokens.{IsComment, Comments, none, comment}
-use Rattle.jav_cursor.specs.declared.sort.Sort.TheVariants as sort
-use Rattle.jav_cursor.specs.Reading.{comments}
+use Rattle.jav_parse_cursor.specs.declared.sort.Sort.TheVariants as sort
+use Rattle.jav_parse_cursor.specs.Reading.{comments}
 use Rattle.jav_parse.proofs.Meets.{Reads, reads_pure, reads_refuse, reads_map, reads_token, reads_when}
 use Rattle.jav_parse.proofs.TokenSorts as token
 

@@ -8,17 +8,17 @@ use Rattle.jav_tree.specs.Tokens.{IsSymbol, IsKeyword}
 use Rattle.jav_tree.specs.Types.{WholeType}
 use Rattle.jav_tree.specs.Statements as stmts
 use Rattle.jav_tree.specs.Statements.{MaybeFinal, Plain, Single, SuperStart, Declaration}
-use Rattle.jav_expr.specs.declared.action.Lead.{Lead}
-use Rattle.jav_expr.specs.declared.action.Lead.TheVariants as lead
-use Rattle.jav_cursor.specs.declared.limits.Limits.{Limits}
-use Rattle.jav_stmt.specs.declared.local.VariableList.{VariableList}
-use Rattle.jav_cursor.specs.declared.sort.Sort.TheVariants as sort
-use Rattle.jav_stmt.specs.declared.stmt_tall.TallStmt.{TallStmt}
-use Rattle.jav_cursor.specs.declared.tall.Listed.{Listed}
-use Rattle.jav_expr.specs.ActionRules.{super_action}
-use Rattle.jav_stmt.specs.LocalRules.{declarators}
-use Rattle.jav_cursor.specs.Reading.{◌>>=◌, take_token, when_next}
-use Rattle.jav_stmt.specs.StmtRules.{closed, super_start, done, super_first, local_of, local, led, named}
+use Rattle.jav_parse_expr.specs.declared.action.Lead.{Lead}
+use Rattle.jav_parse_expr.specs.declared.action.Lead.TheVariants as lead
+use Rattle.jav_parse_cursor.specs.declared.limits.Limits.{Limits}
+use Rattle.jav_parse_stmt.specs.declared.local.VariableList.{VariableList}
+use Rattle.jav_parse_cursor.specs.declared.sort.Sort.TheVariants as sort
+use Rattle.jav_parse_stmt.specs.declared.stmt_tall.TallStmt.{TallStmt}
+use Rattle.jav_parse_cursor.specs.declared.tall.Listed.{Listed}
+use Rattle.jav_parse_expr.specs.ActionRules.{super_action}
+use Rattle.jav_parse_stmt.specs.LocalRules.{declarators}
+use Rattle.jav_parse_cursor.specs.Reading.{◌>>=◌, take_token, when_next}
+use Rattle.jav_parse_stmt.specs.StmtRules.{closed, super_start, done, super_first, local_of, local, led, named}
 use Rattle.jav_parse.proofs.ExpressionLaws.{ExpressionLaws, IsLead}
 use Rattle.jav_parse.proofs.Within.{AreArguments}
 use Rattle.jav_parse.proofs.Meets.{ReadsAt, Reads, some_of, reads_pure, reads_map, reads_any, reads_bind, reads_token, reads_when}

@@ -7,22 +7,22 @@ use Rattle.jav_tree.specs.Operators.{IsPrefix, IsStep}
 use Rattle.jav_tree.specs.declared.expr.Expr.{Expr}
 use Rattle.jav_tree.specs.Expressions as tree
 use Rattle.jav_tree.specs.Expressions.{Expression, Init, Items, expr_at}
-use Rattle.jav_cursor.specs.declared.limits.Limits.{Limits}
-use Rattle.jav_expr.specs.declared.primary.Goal.{Goal}
-use Rattle.jav_expr.specs.declared.primary.Goal.TheVariants as goals
-use Rattle.jav_expr.specs.declared.primary.Rooms.{Rooms}
-use Rattle.jav_cursor.specs.declared.sort.Sort.{Sort}
-use Rattle.jav_cursor.specs.declared.sort.Sort.TheVariants as sort
-use Rattle.jav_cursor.specs.declared.tall.Shape.{Shape}
-use Rattle.jav_cursor.specs.declared.tall.Shape.TheVariants.{Target}
-use Rattle.jav_cursor.specs.declared.tall.Tall.{Tall}
-use Rattle.jav_cursor.specs.declared.tall.Listed.{Listed}
-use Rattle.jav_cursor.specs.Nodes as made
-use Rattle.jav_cursor.specs.Nodes.{is_target}
-use Rattle.jav_expr.specs.PrimaryRules.{free, stepping, part}
-use Rattle.jav_expr.specs.ExprRules.{inside_by, inside, postfix, prefixed, operand_by, operand, level, after, target, init, asked, expr}
-use Rattle.jav_cursor.specs.Reading.{Parser, ◌>>=◌, pure, refuse}
-use Rattle.jav_cursor.specs.Sorts.{sort_of}
+use Rattle.jav_parse_cursor.specs.declared.limits.Limits.{Limits}
+use Rattle.jav_parse_expr.specs.declared.primary.Goal.{Goal}
+use Rattle.jav_parse_expr.specs.declared.primary.Goal.TheVariants as goals
+use Rattle.jav_parse_expr.specs.declared.primary.Rooms.{Rooms}
+use Rattle.jav_parse_cursor.specs.declared.sort.Sort.{Sort}
+use Rattle.jav_parse_cursor.specs.declared.sort.Sort.TheVariants as sort
+use Rattle.jav_parse_cursor.specs.declared.tall.Shape.{Shape}
+use Rattle.jav_parse_cursor.specs.declared.tall.Shape.TheVariants.{Target}
+use Rattle.jav_parse_cursor.specs.declared.tall.Tall.{Tall}
+use Rattle.jav_parse_cursor.specs.declared.tall.Listed.{Listed}
+use Rattle.jav_parse_cursor.specs.Nodes as made
+use Rattle.jav_parse_cursor.specs.Nodes.{is_target}
+use Rattle.jav_parse_expr.specs.PrimaryRules.{free, stepping, part}
+use Rattle.jav_parse_expr.specs.ExprRules.{inside_by, inside, postfix, prefixed, operand_by, operand, level, after, target, init, asked, expr}
+use Rattle.jav_parse_cursor.specs.Reading.{Parser, ◌>>=◌, pure, refuse}
+use Rattle.jav_parse_cursor.specs.Sorts.{sort_of}
 use Rattle.jav_parse.proofs.Meets.{Spelling, Some_of, ReadsAt, Reads, reads_pure, reads_refuse, reads_map, reads_bind, reads_made, reads_if, reads_when, reads_token, reads_peek, reads_place}
 use Rattle.jav_parse.proofs.Samples.{a_name, a_dot}
 use Rattle.jav_parse.proofs.SoundCasts.{free_rooms, free_inside, reads_opened}

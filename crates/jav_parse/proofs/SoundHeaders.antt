@@ -13,20 +13,20 @@ use Rattle.jav_tree.specs.Expressions as tree
 use Rattle.jav_tree.specs.Expressions.{Expression}
 use Rattle.jav_tree.specs.Statements as stmts
 use Rattle.jav_tree.specs.Statements.{MaybeFinal, MayBeStatement, MaybeExpression, Update}
-use Rattle.jav_expr.specs.declared.action.Lead.{Lead}
-use Rattle.jav_expr.specs.declared.action.Lead.TheVariants as lead
-use Rattle.jav_stmt.specs.declared.flow.HeaderPart.{HeaderPart}
-use Rattle.jav_stmt.specs.declared.flow.HeaderPart.TheVariants.{Start, Each}
-use Rattle.jav_cursor.specs.declared.limits.Limits.{Limits}
-use Rattle.jav_cursor.specs.declared.sort.Sort.{Sort}
-use Rattle.jav_cursor.specs.declared.sort.Sort.TheVariants as sort
-use Rattle.jav_cursor.specs.declared.tall.Listed.{Listed}
-use Rattle.jav_cursor.specs.declared.tall.Tall.{Tall}
-use Rattle.jav_expr.specs.ActionRules.{further_actions, actions_after, actions}
-use Rattle.jav_cursor.specs.Nodes as made
-use Rattle.jav_cursor.specs.Nodes.{no_exprs}
-use Rattle.jav_cursor.specs.Reading.{Parser, ◌>>=◌}
-use Rattle.jav_stmt.specs.StmtRules.{condition, doing, header_let, header_of, header_led, header_named, header_by, header, for_test, updates}
+use Rattle.jav_parse_expr.specs.declared.action.Lead.{Lead}
+use Rattle.jav_parse_expr.specs.declared.action.Lead.TheVariants as lead
+use Rattle.jav_parse_stmt.specs.declared.flow.HeaderPart.{HeaderPart}
+use Rattle.jav_parse_stmt.specs.declared.flow.HeaderPart.TheVariants.{Start, Each}
+use Rattle.jav_parse_cursor.specs.declared.limits.Limits.{Limits}
+use Rattle.jav_parse_cursor.specs.declared.sort.Sort.{Sort}
+use Rattle.jav_parse_cursor.specs.declared.sort.Sort.TheVariants as sort
+use Rattle.jav_parse_cursor.specs.declared.tall.Listed.{Listed}
+use Rattle.jav_parse_cursor.specs.declared.tall.Tall.{Tall}
+use Rattle.jav_parse_expr.specs.ActionRules.{further_actions, actions_after, actions}
+use Rattle.jav_parse_cursor.specs.Nodes as made
+use Rattle.jav_parse_cursor.specs.Nodes.{no_exprs}
+use Rattle.jav_parse_cursor.specs.Reading.{Parser, ◌>>=◌}
+use Rattle.jav_parse_stmt.specs.StmtRules.{condition, doing, header_let, header_of, header_led, header_named, header_by, header, for_test, updates}
 use Rattle.jav_parse.proofs.ExpressionLaws.{ExpressionLaws, IsAction, IsLead}
 use Rattle.jav_parse.proofs.Meets.{Spelling, ReadsAt, Reads, reads_pure, reads_refuse, reads_map, reads_any, reads_bind, reads_token, reads_peek, reads_when}
 use Rattle.jav_parse.proofs.SoundLocals.{placed_names, reads_variables}

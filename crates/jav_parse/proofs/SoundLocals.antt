@@ -7,11 +7,11 @@ use Rattle.jav_tree.specs.declared.stmt.Declarator.{Declarator}
 use Rattle.jav_tree.specs.Tokens.{IsSymbol, IsName}
 use Rattle.jav_tree.specs.Statements as stmts
 use Rattle.jav_tree.specs.Statements.{Variables}
-use Rattle.jav_cursor.specs.declared.limits.Limits.{Limits}
-use Rattle.jav_stmt.specs.declared.local.Variable.{Variable}
-use Rattle.jav_stmt.specs.declared.local.VariableList.{VariableList}
-use Rattle.jav_cursor.specs.declared.sort.Sort.TheVariants as sort
-use Rattle.jav_stmt.specs.LocalRules.{no_variables, alone, declarator, declarators, with_variable, further_variables, variables}
+use Rattle.jav_parse_cursor.specs.declared.limits.Limits.{Limits}
+use Rattle.jav_parse_stmt.specs.declared.local.Variable.{Variable}
+use Rattle.jav_parse_stmt.specs.declared.local.VariableList.{VariableList}
+use Rattle.jav_parse_cursor.specs.declared.sort.Sort.TheVariants as sort
+use Rattle.jav_parse_stmt.specs.LocalRules.{no_variables, alone, declarator, declarators, with_variable, further_variables, variables}
 use Rattle.jav_parse.proofs.ExpressionLaws.{ExpressionLaws}
 use Rattle.jav_parse.proofs.Meets.{Spelling, Reads, reads_pure, reads_refuse, reads_map, reads_if, reads_bind, reads_made, reads_token, reads_when}
 use Rattle.jav_parse.proofs.TokenSorts as token

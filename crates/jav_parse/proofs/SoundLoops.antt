@@ -13,23 +13,23 @@ use Rattle.jav_tree.specs.Tokens.{IsSymbol, IsKeyword, IsName, Comments, start_o
 use Rattle.jav_tree.specs.Statements as stmts
 use Rattle.jav_tree.specs.Tokens as spelled
 use Rattle.jav_tree.specs.Statements.{Plain, Choice, Branch, BlockOf, MaybeFinal, MaybeExpression, Update, fronted, tailed}
-use Rattle.jav_stmt.specs.declared.flow.HeaderPart.{HeaderPart}
-use Rattle.jav_stmt.specs.declared.flow.HeaderPart.TheVariants.{Start, Each}
-use Rattle.jav_stmt.specs.declared.flow.Maybe.{Maybe}
-use Rattle.jav_cursor.specs.declared.limits.Limits.{Limits}
-use Rattle.jav_cursor.specs.declared.sort.Sort.{Sort}
-use Rattle.jav_cursor.specs.declared.sort.Sort.TheVariants as sort
-use Rattle.jav_stmt.specs.declared.stmt.Place.{Place}
-use Rattle.jav_stmt.specs.declared.stmt.Place.TheVariants as place
-use Rattle.jav_stmt.specs.declared.stmt_tall.TallBlock.{TallBlock}
-use Rattle.jav_stmt.specs.declared.stmt_tall.TallStmt.{TallStmt}
-use Rattle.jav_cursor.specs.declared.tall.Listed.{Listed}
-use Rattle.jav_cursor.specs.declared.tall.Tall.{Tall}
-use Rattle.jav_cursor.specs.Reading.{Parser, ◌>>=◌, ◌>>◌, pure, refuse, take_token, expect}
-use Rattle.jav_cursor.specs.Reading.{sort as next_sort}
-use Rattle.jav_cursor.specs.Sorts.{same_sort}
-use Rattle.jav_stmt.specs.StmtRules.{closed, condition, header, block, branch, block_stmt, if_stmt, while_stmt, counted_body, counted, each, for_by, for_stmt, plain_by, plain, item_by, item, if_at, standing, stmt, expression}
-use Rattle.jav_stmt.specs.StmtRules as rules
+use Rattle.jav_parse_stmt.specs.declared.flow.HeaderPart.{HeaderPart}
+use Rattle.jav_parse_stmt.specs.declared.flow.HeaderPart.TheVariants.{Start, Each}
+use Rattle.jav_parse_stmt.specs.declared.flow.Maybe.{Maybe}
+use Rattle.jav_parse_cursor.specs.declared.limits.Limits.{Limits}
+use Rattle.jav_parse_cursor.specs.declared.sort.Sort.{Sort}
+use Rattle.jav_parse_cursor.specs.declared.sort.Sort.TheVariants as sort
+use Rattle.jav_parse_stmt.specs.declared.stmt.Place.{Place}
+use Rattle.jav_parse_stmt.specs.declared.stmt.Place.TheVariants as place
+use Rattle.jav_parse_stmt.specs.declared.stmt_tall.TallBlock.{TallBlock}
+use Rattle.jav_parse_stmt.specs.declared.stmt_tall.TallStmt.{TallStmt}
+use Rattle.jav_parse_cursor.specs.declared.tall.Listed.{Listed}
+use Rattle.jav_parse_cursor.specs.declared.tall.Tall.{Tall}
+use Rattle.jav_parse_cursor.specs.Reading.{Parser, ◌>>=◌, ◌>>◌, pure, refuse, take_token, expect}
+use Rattle.jav_parse_cursor.specs.Reading.{sort as next_sort}
+use Rattle.jav_parse_cursor.specs.Sorts.{same_sort}
+use Rattle.jav_parse_stmt.specs.StmtRules.{closed, condition, header, block, branch, block_stmt, if_stmt, while_stmt, counted_body, counted, each, for_by, for_stmt, plain_by, plain, item_by, item, if_at, standing, stmt, expression}
+use Rattle.jav_parse_stmt.specs.StmtRules as rules
 use Rattle.jav_parse.proofs.ExpressionLaws.{ExpressionLaws}
 use Rattle.jav_parse.proofs.Meets.{Some_of, ReadsAt, Reads, some_of, reads_refuse, reads_map, reads_if, reads_any, reads_bind, reads_token, reads_peek, reads_when}
 use Rattle.jav_parse.proofs.SoundBlocks.{Braces, reads_block, fronted_none, tailed_none}

@@ -14,21 +14,21 @@ use Rattle.jav_tree.specs.Types as types
 use Rattle.jav_tree.specs.Statements.{BlockOf, ConstructorBlock}
 use Rattle.jav_tree.specs.Members as tree
 use Rattle.jav_tree.specs.Members.{Declared, Parameters, Result, MayBeConstructor}
-use Rattle.jav_cursor.specs.declared.limits.Limits.{Limits}
-use Rattle.jav_stmt.specs.declared.local.Variable.{Variable}
-use Rattle.jav_stmt.specs.declared.local.VariableList.{VariableList}
-use Rattle.jav_rules.specs.declared.member.Front.{Front}
-use Rattle.jav_cursor.specs.declared.sort.Sort.{Sort}
-use Rattle.jav_cursor.specs.declared.sort.Sort.TheVariants as sort
-use Rattle.jav_stmt.specs.declared.stmt.Place.TheVariants as place
-use Rattle.jav_stmt.specs.declared.stmt_tall.TallBlock.{TallBlock}
-use Rattle.jav_rules.specs.declared.words.Words.{Words as Modifiers}
-use Rattle.jav_rules.specs.MemberRules.{method_block, body_or_semi, method_of, method, constructor_of, constructor, further_fields, fields_of, fields, one_member, typed, fits_class, may_construct, named, void_method, member_by, declared}
-use Rattle.jav_cursor.specs.Nodes.{text_of}
-use Rattle.jav_cursor.specs.Reading.{◌>>=◌, refuse}
-use Rattle.jav_stmt.specs.StmtRules.{stmt}
-use Rattle.jav_cursor.specs.TypeRules.{type_after, whole_type}
-use Rattle.jav_rules.specs.WordRules as rules
+use Rattle.jav_parse_cursor.specs.declared.limits.Limits.{Limits}
+use Rattle.jav_parse_stmt.specs.declared.local.Variable.{Variable}
+use Rattle.jav_parse_stmt.specs.declared.local.VariableList.{VariableList}
+use Rattle.jav_parse_unit.specs.declared.member.Front.{Front}
+use Rattle.jav_parse_cursor.specs.declared.sort.Sort.{Sort}
+use Rattle.jav_parse_cursor.specs.declared.sort.Sort.TheVariants as sort
+use Rattle.jav_parse_stmt.specs.declared.stmt.Place.TheVariants as place
+use Rattle.jav_parse_stmt.specs.declared.stmt_tall.TallBlock.{TallBlock}
+use Rattle.jav_parse_unit.specs.declared.words.Words.{Words as Modifiers}
+use Rattle.jav_parse_unit.specs.MemberRules.{method_block, body_or_semi, method_of, method, constructor_of, constructor, further_fields, fields_of, fields, one_member, typed, fits_class, may_construct, named, void_method, member_by, declared}
+use Rattle.jav_parse_cursor.specs.Nodes.{text_of}
+use Rattle.jav_parse_cursor.specs.Reading.{◌>>=◌, refuse}
+use Rattle.jav_parse_stmt.specs.StmtRules.{stmt}
+use Rattle.jav_parse_cursor.specs.TypeRules.{type_after, whole_type}
+use Rattle.jav_parse_unit.specs.WordRules as rules
 use Rattle.jav_parse.proofs.ExpressionLaws.{ExpressionLaws}
 use Rattle.jav_parse.proofs.Meets.{Some_of, ReadsAt, Reads, some_of, reads_pure, reads_refuse, reads_map, reads_if, reads_if_then, reads_any, reads_bind, reads_made, reads_token, reads_peek, reads_when, reads_place}
 use Rattle.jav_parse.proofs.ModifierFits.{both_true, field_fits, method_fits, abstract_fits, abstract_no_static, constructor_fits}

@@ -2,17 +2,17 @@
 use Rattle.std.proofs.Common.{◌≡◌, ℕ, ◌<◌, ◌≤◌, List, [], ◌∷◌, ◌++◌, nat_le, nat_lt, if◌then◌else◌, refl, arith}
 use Rattle.std.proofs.lemmas.List.{append-nil}
 use Rattle.mol_base.specs.Token.{Token}
-use Rattle.jav_cursor.specs.declared.limits.Limits.{Limits}
-use Rattle.jav_expr.specs.declared.primary.Rooms.{Rooms}
-use Rattle.jav_cursor.specs.declared.sort.Sort.{Sort}
-use Rattle.jav_cursor.specs.declared.sort.Sort.TheVariants as sort
-use Rattle.jav_cursor.specs.declared.tall.Tall.{Tall}
-use Rattle.jav_cursor.specs.Nodes as made
-use Rattle.jav_cursor.specs.Nodes.{count_of, is_array}
-use Rattle.jav_expr.specs.PrimaryRules as rules
-use Rattle.jav_expr.specs.PrimaryRules.{Inside, arguments}
-use Rattle.jav_cursor.specs.Reading.{Parser, ◌>>=◌, pure, refuse}
-use Rattle.jav_cursor.specs.Sorts.{sort_of, same_sort}
+use Rattle.jav_parse_cursor.specs.declared.limits.Limits.{Limits}
+use Rattle.jav_parse_expr.specs.declared.primary.Rooms.{Rooms}
+use Rattle.jav_parse_cursor.specs.declared.sort.Sort.{Sort}
+use Rattle.jav_parse_cursor.specs.declared.sort.Sort.TheVariants as sort
+use Rattle.jav_parse_cursor.specs.declared.tall.Tall.{Tall}
+use Rattle.jav_parse_cursor.specs.Nodes as made
+use Rattle.jav_parse_cursor.specs.Nodes.{count_of, is_array}
+use Rattle.jav_parse_expr.specs.PrimaryRules as rules
+use Rattle.jav_parse_expr.specs.PrimaryRules.{Inside, arguments}
+use Rattle.jav_parse_cursor.specs.Reading.{Parser, ◌>>=◌, pure, refuse}
+use Rattle.jav_parse_cursor.specs.Sorts.{sort_of, same_sort}
 use Rattle.jav_parse.proofs.Meets.{Spelling, Some_of, ReadsAt, Reads, reads_refuse, reads_bind, reads_made, reads_if_then, reads_peek_then, reads_any}
 use Rattle.jav_parse.proofs.SoundNames.{named_is, target_part, named_call_part}
 use Rattle.jav_parse.proofs.SoundPrimary.{reads_args, reads_index}

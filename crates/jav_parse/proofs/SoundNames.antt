@@ -8,13 +8,13 @@ use Rattle.mol_base.specs.Token.{Token}
 use Rattle.jav_tree.specs.Tokens.{IsSymbol, IsName}
 use Rattle.jav_tree.specs.Expressions as tree
 use Rattle.jav_tree.specs.Expressions.{Primary}
-use Rattle.jav_cursor.specs.declared.limits.Limits.{Limits}
-use Rattle.jav_expr.specs.declared.primary.Rooms.{Rooms}
-use Rattle.jav_cursor.specs.declared.tall.Shape.TheVariants.{Target}
-use Rattle.jav_cursor.specs.declared.tall.Tall.{Tall}
-use Rattle.jav_cursor.specs.declared.tall.Listed.{Listed}
-use Rattle.jav_cursor.specs.Nodes as made
-use Rattle.jav_cursor.specs.Nodes.{count_of, dotted_by, last_of, named, named_call}
+use Rattle.jav_parse_cursor.specs.declared.limits.Limits.{Limits}
+use Rattle.jav_parse_expr.specs.declared.primary.Rooms.{Rooms}
+use Rattle.jav_parse_cursor.specs.declared.tall.Shape.TheVariants.{Target}
+use Rattle.jav_parse_cursor.specs.declared.tall.Tall.{Tall}
+use Rattle.jav_parse_cursor.specs.declared.tall.Listed.{Listed}
+use Rattle.jav_parse_cursor.specs.Nodes as made
+use Rattle.jav_parse_cursor.specs.Nodes.{count_of, dotted_by, last_of, named, named_call}
 use Rattle.jav_parse.proofs.SoundTypes.{Dots, IsNames}
 use Rattle.jav_parse.proofs.SoundTypes as types
 use Rattle.jav_parse.proofs.Within.{AreArguments, IsPart, Shaped, room}

@@ -6,20 +6,20 @@ use Rattle.mol_base.specs.Token.{Token}
 use Rattle.jav_tree.specs.declared.expr.Expr.{Expr}
 use Rattle.jav_tree.specs.Expressions as tree
 use Rattle.jav_tree.specs.Expressions.{Expression, Primary}
-use Rattle.jav_cursor.specs.declared.limits.Limits.{Limits}
-use Rattle.jav_expr.specs.declared.primary.Goal.{Goal}
-use Rattle.jav_cursor.specs.declared.sort.Sort.{Sort}
-use Rattle.jav_cursor.specs.declared.sort.Sort.TheVariants as sort
-use Rattle.jav_cursor.specs.declared.tall.Shape.{Shape}
-use Rattle.jav_cursor.specs.declared.tall.Shape.TheVariants.{Target, Invocation, Atom, Array, Loose}
-use Rattle.jav_cursor.specs.declared.tall.Tall.{Tall}
-use Rattle.jav_cursor.specs.Nodes as made
-use Rattle.jav_cursor.specs.Nodes.{is_target}
-use Rattle.jav_expr.specs.PrimaryRules.{free}
-use Rattle.jav_cursor.specs.TypeRules.{whole_type}
-use Rattle.jav_expr.specs.ExprRules.{level_of, is_assignment, step_after, postfix, assign_to, assignment, instance_of, binary, operation, climb, choice, operators}
-use Rattle.jav_cursor.specs.Reading.{Parser, ◌>>=◌, pure}
-use Rattle.jav_cursor.specs.Sorts.{sort_of, same_sort}
+use Rattle.jav_parse_cursor.specs.declared.limits.Limits.{Limits}
+use Rattle.jav_parse_expr.specs.declared.primary.Goal.{Goal}
+use Rattle.jav_parse_cursor.specs.declared.sort.Sort.{Sort}
+use Rattle.jav_parse_cursor.specs.declared.sort.Sort.TheVariants as sort
+use Rattle.jav_parse_cursor.specs.declared.tall.Shape.{Shape}
+use Rattle.jav_parse_cursor.specs.declared.tall.Shape.TheVariants.{Target, Invocation, Atom, Array, Loose}
+use Rattle.jav_parse_cursor.specs.declared.tall.Tall.{Tall}
+use Rattle.jav_parse_cursor.specs.Nodes as made
+use Rattle.jav_parse_cursor.specs.Nodes.{is_target}
+use Rattle.jav_parse_expr.specs.PrimaryRules.{free}
+use Rattle.jav_parse_cursor.specs.TypeRules.{whole_type}
+use Rattle.jav_parse_expr.specs.ExprRules.{level_of, is_assignment, step_after, postfix, assign_to, assignment, instance_of, binary, operation, climb, choice, operators}
+use Rattle.jav_parse_cursor.specs.Reading.{Parser, ◌>>=◌, pure}
+use Rattle.jav_parse_cursor.specs.Sorts.{sort_of, same_sort}
 use Rattle.jav_parse.proofs.Meets.{Spelling, ReadsAt, Reads, reads_pure, reads_refuse, reads_map, reads_bind, reads_made, reads_if, reads_when, reads_where, reads_any, reads_token, reads_expect, reads_peek, reads_peek_at}
 use Rattle.jav_parse.proofs.Samples.{a_colon}
 use Rattle.jav_parse.proofs.SoundPrimary.{or_false}

@@ -8,9 +8,9 @@ use Rattle.jav_tree.specs.Statements as stmts
 use Rattle.jav_tree.specs.Statements.{MaybeFinal}
 use Rattle.jav_tree.specs.Members as tree
 use Rattle.jav_tree.specs.Members.{Parameter, ParameterList, Parameters}
-use Rattle.jav_cursor.specs.declared.limits.Limits.{Limits}
-use Rattle.jav_cursor.specs.declared.sort.Sort.TheVariants as sort
-use Rattle.jav_rules.specs.MemberRules.{param_of, param, further_params, some_params, params}
+use Rattle.jav_parse_cursor.specs.declared.limits.Limits.{Limits}
+use Rattle.jav_parse_cursor.specs.declared.sort.Sort.TheVariants as sort
+use Rattle.jav_parse_unit.specs.MemberRules.{param_of, param, further_params, some_params, params}
 use Rattle.jav_parse.proofs.ExpressionLaws.{ExpressionLaws}
 use Rattle.jav_parse.proofs.Meets.{Spelling, Reads, reads_pure, reads_map, reads_any, reads_bind, reads_token, reads_when}
 use Rattle.jav_parse.proofs.TokenSorts as token

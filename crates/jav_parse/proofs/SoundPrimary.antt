@@ -11,19 +11,19 @@ use Rattle.jav_tree.specs.declared.types.TypeName.{TypeName}
 use Rattle.jav_tree.specs.declared.types.TypeName.TheVariants as ty
 use Rattle.jav_tree.specs.Expressions as tree
 use Rattle.jav_tree.specs.Expressions.{Expression, Primary, expr_at}
-use Rattle.jav_cursor.specs.declared.limits.Limits.{Limits}
-use Rattle.jav_expr.specs.declared.primary.Rooms.{Rooms}
-use Rattle.jav_cursor.specs.declared.sort.Sort.{Sort}
-use Rattle.jav_cursor.specs.declared.sort.Sort.TheVariants as sort
-use Rattle.jav_cursor.specs.declared.tall.Shape.{Shape}
-use Rattle.jav_cursor.specs.declared.tall.Shape.TheVariants.{Target, Invocation, Atom, Array, Loose}
-use Rattle.jav_cursor.specs.declared.tall.Tall.{Tall}
-use Rattle.jav_cursor.specs.declared.tall.Listed.{Listed}
-use Rattle.jav_cursor.specs.Nodes as made
-use Rattle.jav_cursor.specs.Nodes.{is_array, text_of}
-use Rattle.jav_expr.specs.PrimaryRules.{Inside, is_link, arguments, creation, super_call, name, parens, primary_by, primary, call_on, member_name, member_named, member, index, item, link_by, link, chain, part}
-use Rattle.jav_cursor.specs.Reading.{Parser, ◌>>◌, refuse, take_token, expect}
-use Rattle.jav_cursor.specs.Sorts.{sort_of}
+use Rattle.jav_parse_cursor.specs.declared.limits.Limits.{Limits}
+use Rattle.jav_parse_expr.specs.declared.primary.Rooms.{Rooms}
+use Rattle.jav_parse_cursor.specs.declared.sort.Sort.{Sort}
+use Rattle.jav_parse_cursor.specs.declared.sort.Sort.TheVariants as sort
+use Rattle.jav_parse_cursor.specs.declared.tall.Shape.{Shape}
+use Rattle.jav_parse_cursor.specs.declared.tall.Shape.TheVariants.{Target, Invocation, Atom, Array, Loose}
+use Rattle.jav_parse_cursor.specs.declared.tall.Tall.{Tall}
+use Rattle.jav_parse_cursor.specs.declared.tall.Listed.{Listed}
+use Rattle.jav_parse_cursor.specs.Nodes as made
+use Rattle.jav_parse_cursor.specs.Nodes.{is_array, text_of}
+use Rattle.jav_parse_expr.specs.PrimaryRules.{Inside, is_link, arguments, creation, super_call, name, parens, primary_by, primary, call_on, member_name, member_named, member, index, item, link_by, link, chain, part}
+use Rattle.jav_parse_cursor.specs.Reading.{Parser, ◌>>◌, refuse, take_token, expect}
+use Rattle.jav_parse_cursor.specs.Sorts.{sort_of}
 use Rattle.jav_parse.proofs.Meets.{Spelling, Some_of, some_of, ReadsAt, Reads, reads_pure, reads_refuse, reads_map, reads_bind, reads_made, reads_if, reads_if_then, reads_when, reads_any, reads_token, reads_expect, reads_last, reads_peek}
 use Rattle.jav_parse.proofs.Samples.{a_name, a_dot, a_close, a_right}
 use Rattle.jav_parse.proofs.SoundArrays.{reads_array}

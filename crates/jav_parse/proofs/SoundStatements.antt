@@ -7,12 +7,12 @@ use Rattle.jav_tree.specs.declared.stmt.StmtNode.TheVariants as node
 use Rattle.jav_tree.specs.Tokens.{IsSymbol}
 use Rattle.jav_tree.specs.Statements as stmts
 use Rattle.jav_tree.specs.Statements.{MaybeFinal, Plain, Single, SuperStart, Declaration}
-use Rattle.jav_cursor.specs.declared.limits.Limits.{Limits}
-use Rattle.jav_cursor.specs.declared.sort.Sort.TheVariants as sort
-use Rattle.jav_stmt.specs.declared.stmt_tall.TallStmt.{TallStmt}
-use Rattle.jav_cursor.specs.declared.tall.Tall.{Tall}
-use Rattle.jav_cursor.specs.Sorts.{sort_of}
-use Rattle.jav_stmt.specs.StmtRules.{closed, done, expression, return_stmt, throw_stmt, word_stmt, empty_stmt}
+use Rattle.jav_parse_cursor.specs.declared.limits.Limits.{Limits}
+use Rattle.jav_parse_cursor.specs.declared.sort.Sort.TheVariants as sort
+use Rattle.jav_parse_stmt.specs.declared.stmt_tall.TallStmt.{TallStmt}
+use Rattle.jav_parse_cursor.specs.declared.tall.Tall.{Tall}
+use Rattle.jav_parse_cursor.specs.Sorts.{sort_of}
+use Rattle.jav_parse_stmt.specs.StmtRules.{closed, done, expression, return_stmt, throw_stmt, word_stmt, empty_stmt}
 use Rattle.jav_parse.proofs.ExpressionLaws.{ExpressionLaws, tries_action, IsAction}
 use Rattle.jav_parse.proofs.Meets.{Some_of, ReadsAt, Reads, reads_pure, reads_refuse, reads_map, reads_if, reads_any, reads_bind, reads_token, reads_when}
 use Rattle.jav_parse.proofs.StatementForms.{StatementForm, Stands, Closes, stands, other_form, ends_some, suc_is}

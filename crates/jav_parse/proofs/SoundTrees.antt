@@ -5,13 +5,13 @@ use Rattle.mol_base.specs.Token.{Token}
 use Rattle.jav_tree.specs.declared.unit.Unit.{Unit as Source}
 use Rattle.jav_tree.specs.Trees.{IsUnit, IsMember, IsBody, IsExpr, IsType}
 use Rattle.jav_tree.specs.Units.{AscendingOf}
-use Rattle.jav_cursor.specs.declared.limits.Limits.{Limits}
-use Rattle.jav_stmt.specs.declared.stmt.Place.TheVariants as place
-use Rattle.jav_cursor.specs.Reading.{Parser}
-use Rattle.jav_stmt.specs.StmtRules.{stmt}
-use Rattle.jav_cursor.specs.TypeRules.{whole_type}
-use Rattle.jav_rules.specs.UnitRules.{unit}
-use Rattle.jav_rules.specs.WholeRules.{declaration, body, expression}
+use Rattle.jav_parse_cursor.specs.declared.limits.Limits.{Limits}
+use Rattle.jav_parse_stmt.specs.declared.stmt.Place.TheVariants as place
+use Rattle.jav_parse_cursor.specs.Reading.{Parser}
+use Rattle.jav_parse_stmt.specs.StmtRules.{stmt}
+use Rattle.jav_parse_cursor.specs.TypeRules.{whole_type}
+use Rattle.jav_parse_unit.specs.UnitRules.{unit}
+use Rattle.jav_parse_unit.specs.WholeRules.{declaration, body, expression}
 use Rattle.jav_parse.proofs.ExpressionLaws.{ExpressionLaws}
 use Rattle.jav_parse.proofs.Meets.{Meets, Spelling, Reads, reads_map, reads_bind, reads_made}
 use Rattle.jav_parse.proofs.SoundBlocks.{reads_constructor, fronted_none, tailed_none}

@@ -7,13 +7,13 @@ use Rattle.jav_tree.specs.declared.types.TypeName.TheVariants as ty
 use Rattle.jav_tree.specs.Tokens.{IsSymbol, IsName}
 use Rattle.jav_tree.specs.Types as types
 use Rattle.jav_tree.specs.Types.{Qualified, IsPrimitive, BaseType, Brackets, WholeType, array_of}
-use Rattle.jav_cursor.specs.declared.limits.Limits.{Limits}
-use Rattle.jav_cursor.specs.declared.sort.Sort.{Sort}
-use Rattle.jav_cursor.specs.declared.sort.Sort.TheVariants as sort
-use Rattle.jav_cursor.specs.Nodes.{text_of, array_type}
-use Rattle.jav_cursor.specs.Reading.{◌>>=◌, pure, sort as next_sort}
-use Rattle.jav_cursor.specs.Sorts.{same_sort, sort_of}
-use Rattle.jav_cursor.specs.TypeRules.{further_names, qualified, primitive, base_type, brackets, type_after, whole_type}
+use Rattle.jav_parse_cursor.specs.declared.limits.Limits.{Limits}
+use Rattle.jav_parse_cursor.specs.declared.sort.Sort.{Sort}
+use Rattle.jav_parse_cursor.specs.declared.sort.Sort.TheVariants as sort
+use Rattle.jav_parse_cursor.specs.Nodes.{text_of, array_type}
+use Rattle.jav_parse_cursor.specs.Reading.{◌>>=◌, pure, sort as next_sort}
+use Rattle.jav_parse_cursor.specs.Sorts.{same_sort, sort_of}
+use Rattle.jav_parse_cursor.specs.TypeRules.{further_names, qualified, primitive, base_type, brackets, type_after, whole_type}
 use Rattle.jav_parse.proofs.Meets.{Spelling, ReadsAt, Reads, reads_pure, reads_refuse, reads_map, reads_bind, reads_if, reads_when, reads_any, reads_token, reads_expect}
 use Rattle.jav_parse.proofs.Samples.{a_name, a_right, a_prim}
 use Rattle.jav_parse.proofs.TokenSorts.{dot_is, name_is, left_is, right_is, primitive_is}

@@ -12,14 +12,14 @@ use Rattle.jav_tree.specs.Members as tree
 use Rattle.jav_tree.specs.Members.{Declared, Body}
 use Rattle.jav_tree.specs.Units as units
 use Rattle.jav_tree.specs.Units.{Named, Imports, Parent, AscendingOf, SourceFile}
-use Rattle.jav_cursor.specs.declared.limits.Limits.{Limits}
-use Rattle.jav_cursor.specs.declared.sort.Sort.TheVariants as sort
-use Rattle.jav_rules.specs.declared.unit.ImportList.{ImportList}
-use Rattle.jav_rules.specs.declared.unit.MemberList.{MemberList}
-use Rattle.jav_rules.specs.declared.words.Words.{Words as Modifiers}
-use Rattle.jav_cursor.specs.Nodes.{text_of}
-use Rattle.jav_rules.specs.UnitRules as rules
-use Rattle.jav_rules.specs.WordRules as words
+use Rattle.jav_parse_cursor.specs.declared.limits.Limits.{Limits}
+use Rattle.jav_parse_cursor.specs.declared.sort.Sort.TheVariants as sort
+use Rattle.jav_parse_unit.specs.declared.unit.ImportList.{ImportList}
+use Rattle.jav_parse_unit.specs.declared.unit.MemberList.{MemberList}
+use Rattle.jav_parse_unit.specs.declared.words.Words.{Words as Modifiers}
+use Rattle.jav_parse_cursor.specs.Nodes.{text_of}
+use Rattle.jav_parse_unit.specs.UnitRules as rules
+use Rattle.jav_parse_unit.specs.WordRules as words
 use Rattle.jav_parse.proofs.ExpressionLaws.{ExpressionLaws}
 use Rattle.jav_parse.proofs.Meets.{Reads, reads_pure, reads_refuse, reads_map, reads_any, reads_bind, reads_made, reads_token, reads_when}
 use Rattle.jav_parse.proofs.ModifierFits.{class_fits}

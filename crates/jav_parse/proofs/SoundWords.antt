@@ -10,13 +10,13 @@ use Rattle.mol_base.specs.declared.token_kind.TokenKind.TheVariants as kind
 use Rattle.jav_tree.specs.Tokens.{IsSymbol, IsKeyword, IsName}
 use Rattle.jav_tree.specs.Words as tree
 use Rattle.jav_tree.specs.Words.{Words}
-use Rattle.jav_cursor.specs.declared.sort.Sort.{Sort}
-use Rattle.jav_cursor.specs.declared.sort.Sort.TheVariants as sort
-use Rattle.jav_rules.specs.declared.words.Words.{Words as Modifiers}
-use Rattle.jav_cursor.specs.Reading.{Parser, ◌>>=◌, ◌>>◌, pure, refuse, peek, take_token, when_next, expect_override}
-use Rattle.jav_cursor.specs.Reading as reading
-use Rattle.jav_cursor.specs.Sorts.{sort_of, same_sort}
-use Rattle.jav_rules.specs.WordRules as rules
+use Rattle.jav_parse_cursor.specs.declared.sort.Sort.{Sort}
+use Rattle.jav_parse_cursor.specs.declared.sort.Sort.TheVariants as sort
+use Rattle.jav_parse_unit.specs.declared.words.Words.{Words as Modifiers}
+use Rattle.jav_parse_cursor.specs.Reading.{Parser, ◌>>=◌, ◌>>◌, pure, refuse, peek, take_token, when_next, expect_override}
+use Rattle.jav_parse_cursor.specs.Reading as reading
+use Rattle.jav_parse_cursor.specs.Sorts.{sort_of, same_sort}
+use Rattle.jav_parse_unit.specs.WordRules as rules
 use Rattle.jav_parse.proofs.Meets.{Meets, Spelling, Some_of, ReadsAt, Reads, reads_pure, reads_refuse, reads_map, reads_if, reads_bind, reads_token, reads_peek}
 use Rattle.jav_parse.proofs.Modifiers.{Marked, marked_at}
 use Rattle.jav_parse.proofs.TokenSorts as token

@@ -5,8 +5,8 @@ use Rattle.mol_base.specs.Token.{Token}
 use Rattle.jav_tree.specs.declared.stmt.Stmt.{Stmt}
 use Rattle.jav_tree.specs.declared.stmt.StmtNode.{StmtNode}
 use Rattle.jav_tree.specs.Tokens.{Comments, none, start_of}
-use Rattle.jav_stmt.specs.declared.stmt_tall.TallStmt.{TallStmt}
-use Rattle.jav_stmt.specs.StmtRules.{closed}
+use Rattle.jav_parse_stmt.specs.declared.stmt_tall.TallStmt.{TallStmt}
+use Rattle.jav_parse_stmt.specs.StmtRules.{closed}
 
 -- a relation of heights, openness, statements and tokens
 abbrev pub StatementForm : Type 1

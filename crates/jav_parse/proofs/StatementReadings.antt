@@ -7,18 +7,18 @@ use Rattle.jav_tree.specs.declared.stmt.StmtNode.{StmtNode}
 use Rattle.jav_tree.specs.Statements.{fronted, tailed}
 use Rattle.jav_tree.specs.Tokens.{Comments, start_of}
 use Rattle.jav_tree.specs.Tokens as comment
-use Rattle.jav_stmt.specs.declared.flow.TallElse.{TallElse}
-use Rattle.jav_cursor.specs.declared.limits.Limits.{Limits}
-use Rattle.jav_cursor.specs.declared.sort.Sort.{Sort}
-use Rattle.jav_cursor.specs.declared.sort.Sort.TheVariants as sort
-use Rattle.jav_stmt.specs.declared.stmt.Place.{Place}
-use Rattle.jav_stmt.specs.declared.stmt.Place.TheVariants.{Item, Branch, Plain}
-use Rattle.jav_stmt.specs.declared.stmt_tall.TallBlock.{TallBlock}
-use Rattle.jav_stmt.specs.declared.stmt_tall.TallStmt.{TallStmt}
-use Rattle.jav_cursor.specs.Reading.{sort as next}
-use Rattle.jav_cursor.specs.Sorts.{same_sort}
-use Rattle.jav_stmt.specs.StmtRules as rules
-use Rattle.jav_stmt.specs.StmtRules.{stmt}
+use Rattle.jav_parse_stmt.specs.declared.flow.TallElse.{TallElse}
+use Rattle.jav_parse_cursor.specs.declared.limits.Limits.{Limits}
+use Rattle.jav_parse_cursor.specs.declared.sort.Sort.{Sort}
+use Rattle.jav_parse_cursor.specs.declared.sort.Sort.TheVariants as sort
+use Rattle.jav_parse_stmt.specs.declared.stmt.Place.{Place}
+use Rattle.jav_parse_stmt.specs.declared.stmt.Place.TheVariants.{Item, Branch, Plain}
+use Rattle.jav_parse_stmt.specs.declared.stmt_tall.TallBlock.{TallBlock}
+use Rattle.jav_parse_stmt.specs.declared.stmt_tall.TallStmt.{TallStmt}
+use Rattle.jav_parse_cursor.specs.Reading.{sort as next}
+use Rattle.jav_parse_cursor.specs.Sorts.{same_sort}
+use Rattle.jav_parse_stmt.specs.StmtRules as rules
+use Rattle.jav_parse_stmt.specs.StmtRules.{stmt}
 use Rattle.jav_parse.proofs.FirstTokens.{Begins}
 use Rattle.jav_parse.proofs.ReadingSteps.{IsNot}
 use Rattle.jav_parse.proofs.Written.{is_same}

@@ -4,16 +4,16 @@ use Rattle.mol_base.specs.Token.{Token}
 use Rattle.jav_tree.specs.declared.stmt.Declarator.{Declarator}
 use Rattle.jav_tree.specs.declared.stmt.Stmt.{Stmt}
 use Rattle.jav_tree.specs.Statements.{Variables, BlockOf, ConstructorBlock, fronted, tailed}
-use Rattle.jav_cursor.specs.declared.limits.Limits.{Limits}
-use Rattle.jav_stmt.specs.declared.local.Variable.{Variable}
-use Rattle.jav_cursor.specs.declared.sort.Sort.TheVariants as sort
-use Rattle.jav_stmt.specs.declared.stmt.Place.TheVariants as place
-use Rattle.jav_stmt.specs.declared.stmt_tall.TallBlock.{TallBlock}
-use Rattle.jav_stmt.specs.LocalRules as locals
-use Rattle.jav_cursor.specs.Reading.{Parser, sort as next}
-use Rattle.jav_cursor.specs.Sorts.{sort_of}
-use Rattle.jav_stmt.specs.StmtRules as rules
-use Rattle.jav_stmt.specs.StmtRules.{stmt}
+use Rattle.jav_parse_cursor.specs.declared.limits.Limits.{Limits}
+use Rattle.jav_parse_stmt.specs.declared.local.Variable.{Variable}
+use Rattle.jav_parse_cursor.specs.declared.sort.Sort.TheVariants as sort
+use Rattle.jav_parse_stmt.specs.declared.stmt.Place.TheVariants as place
+use Rattle.jav_parse_stmt.specs.declared.stmt_tall.TallBlock.{TallBlock}
+use Rattle.jav_parse_stmt.specs.LocalRules as locals
+use Rattle.jav_parse_cursor.specs.Reading.{Parser, sort as next}
+use Rattle.jav_parse_cursor.specs.Sorts.{sort_of}
+use Rattle.jav_parse_stmt.specs.StmtRules as rules
+use Rattle.jav_parse_stmt.specs.StmtRules.{stmt}
 use Rattle.jav_parse.proofs.CompleteParameters.{Short}
 
 -- a variable as the parser has it

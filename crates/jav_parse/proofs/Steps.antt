@@ -3,9 +3,9 @@ use Rattle.std.proofs.Common.{◌≡◌, ℕ, Bool, true, false, List, [], ◌�
 use Rattle.std.proofs.lemmas.List.{append-nil}
 use Rattle.mol_base.specs.Token.{Token}
 use Rattle.jav_tree.specs.Tokens.{start_of}
-use Rattle.jav_cursor.specs.declared.sort.Sort.{Sort}
-use Rattle.jav_cursor.specs.Sorts.{sort_of}
-use Rattle.jav_cursor.specs.Reading.{Outcome, Parser, and_then, sort, ◌>>=◌, pure, refuse, place}
+use Rattle.jav_parse_cursor.specs.declared.sort.Sort.{Sort}
+use Rattle.jav_parse_cursor.specs.Sorts.{sort_of}
+use Rattle.jav_parse_cursor.specs.Reading.{Outcome, Parser, and_then, sort, ◌>>=◌, pure, refuse, place}
 use Rattle.jav_parse.proofs.Meets.{Meets, Spelling, Some_of, ReadsAt, Any, Reads, reads_pure, reads_bind, reads_place}
 
 -- p, and then nothing more

@@ -7,11 +7,11 @@ use Rattle.jav_tree.specs.Operators.{IsBinary, IsAssignment, IsStep, IsPrefix, I
 use Rattle.jav_tree.specs.Tokens.{IsSymbol, IsKeyword, IsName, IsLiteral, IsComment}
 use Rattle.jav_tree.specs.Types.{IsPrimitive}
 use Rattle.jav_tree.specs.Types as types
-use Rattle.jav_cursor.specs.declared.sort.Sort.TheVariants as sort
-use Rattle.jav_cursor.specs.declared.sort.Sort.{Sort}
-use Rattle.jav_expr.specs.ExprRules as rules
-use Rattle.jav_expr.specs.ExprRules.{level_of, begins_operand}
-use Rattle.jav_cursor.specs.Sorts.{same_sort, sort_of, symbols}
+use Rattle.jav_parse_cursor.specs.declared.sort.Sort.TheVariants as sort
+use Rattle.jav_parse_cursor.specs.declared.sort.Sort.{Sort}
+use Rattle.jav_parse_expr.specs.ExprRules as rules
+use Rattle.jav_parse_expr.specs.ExprRules.{level_of, begins_operand}
+use Rattle.jav_parse_cursor.specs.Sorts.{same_sort, sort_of, symbols}
 use Rattle.jav_parse.proofs.Written.{OneOf, texts_of, symbol_of, keyword_of, word_of, literal_of, comment_of, each}
 
 only : {A : Type 0} → A ⊎ ⊥ → A

@@ -4,10 +4,10 @@ use Prim.Native.String.{String}
 use Rattle.mol_base.specs.Token.{Token}
 use Rattle.mol_base.specs.declared.token_kind.TokenKind.TheVariants as kind
 use Rattle.jav_tree.specs.Tokens.{IsSymbol, IsKeyword, IsName}
-use Rattle.jav_cursor.specs.declared.sort.Sort.{Sort}
-use Rattle.jav_cursor.specs.declared.sort.Sort.TheVariants as sort
-use Rattle.jav_cursor.specs.Sorts.{sort_of}
-use Rattle.jav_cursor.specs.Reading.{Parser, ◌>>=◌, expect}
+use Rattle.jav_parse_cursor.specs.declared.sort.Sort.{Sort}
+use Rattle.jav_parse_cursor.specs.declared.sort.Sort.TheVariants as sort
+use Rattle.jav_parse_cursor.specs.Sorts.{sort_of}
+use Rattle.jav_parse_cursor.specs.Reading.{Parser, ◌>>=◌, expect}
 use Rattle.jav_parse.proofs.Meets.{Spelling, ReadsAt, Reads, reads_expect}
 use Rattle.jav_parse.proofs.TokenSorts as token
 

@@ -2,10 +2,10 @@
 use Rattle.std.proofs.Common.{◌≡◌, ℕ, ◌<◌, true, List, [], length, Ok, refl, arith}
 use Rattle.mol_base.specs.Token.{Token}
 use Rattle.jav_tree.specs.Trees.{IsExpr, IsBody, IsMember}
-use Rattle.jav_cursor.specs.declared.limits.Limits.{Limits}
-use Rattle.jav_rules.specs.declared.reading.Language.TheVariants as asked
-use Rattle.jav_cursor.specs.Reading.{Parser}
-use Rattle.jav_rules.specs.WholeRules.{expression, body, declaration}
+use Rattle.jav_parse_cursor.specs.declared.limits.Limits.{Limits}
+use Rattle.jav_parse_unit.specs.declared.reading.Language.TheVariants as asked
+use Rattle.jav_parse_cursor.specs.Reading.{Parser}
+use Rattle.jav_parse_unit.specs.WholeRules.{expression, body, declaration}
 use Rattle.jav_parse.proofs.Calls.{ReadsTrees}
 use Rattle.jav_parse.proofs.Languages.{agree_expression, agree_body, agree_declaration, local_expression, local_body, local_declaration}
 use Rattle.jav_parse.proofs.SoundActions.{expression_laws}

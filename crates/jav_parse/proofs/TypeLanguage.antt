@@ -4,11 +4,11 @@ use Rattle.std.proofs.lemmas.List.{append-nil}
 use Rattle.mol_base.specs.Token.{Token}
 use Rattle.jav_tree.specs.declared.types.TypeName.{TypeName}
 use Rattle.jav_tree.specs.Trees.{IsType}
-use Rattle.jav_cursor.specs.declared.limits.Limits.{Limits}
-use Rattle.jav_rules.specs.declared.reading.Language.TheVariants as asked
-use Rattle.jav_cursor.specs.Reading.{sort}
-use Rattle.jav_cursor.specs.Sorts.{same_sort}
-use Rattle.jav_cursor.specs.TypeRules.{whole_type}
+use Rattle.jav_parse_cursor.specs.declared.limits.Limits.{Limits}
+use Rattle.jav_parse_unit.specs.declared.reading.Language.TheVariants as asked
+use Rattle.jav_parse_cursor.specs.Reading.{sort}
+use Rattle.jav_parse_cursor.specs.Sorts.{same_sort}
+use Rattle.jav_parse_cursor.specs.TypeRules.{whole_type}
 use Rattle.jav_parse.proofs.Calls.{ReadsTrees}
 use Rattle.jav_parse.proofs.CompleteTypes.{whole_read}
 use Rattle.jav_parse.proofs.Languages.{agree_type}

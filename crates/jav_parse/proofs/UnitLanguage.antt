@@ -5,14 +5,14 @@ use Rattle.mol_base.specs.Token.{Token}
 use Rattle.jav_tree.specs.declared.unit.Unit.{Unit as Source}
 use Rattle.jav_tree.specs.Trees.{IsUnit}
 use Rattle.jav_tree.specs.Units.{AscendingOf}
-use Rattle.jav_rules.specs.BadToken.{units, most_items, most_height, IsFault}
-use Rattle.jav_rules.specs.declared.fault.ParseFault.{ParseFault}
-use Rattle.jav_rules.specs.declared.fault.ParseFault.TheVariants as fault
-use Rattle.jav_cursor.specs.declared.limits.Limits.{Limits}
-use Rattle.jav_rules.specs.declared.reading.Language.TheVariants as asked
-use Rattle.jav_cursor.specs.Reading.{Outcome}
-use Rattle.jav_rules.specs.UnitRules.{unit}
-use Rattle.jav_rules.specs.WholeRules.{limits_for, is_whole, AnswersSorted}
+use Rattle.jav_parse_unit.specs.BadToken.{units, most_items, most_height, IsFault}
+use Rattle.jav_parse_unit.specs.declared.fault.ParseFault.{ParseFault}
+use Rattle.jav_parse_unit.specs.declared.fault.ParseFault.TheVariants as fault
+use Rattle.jav_parse_cursor.specs.declared.limits.Limits.{Limits}
+use Rattle.jav_parse_unit.specs.declared.reading.Language.TheVariants as asked
+use Rattle.jav_parse_cursor.specs.Reading.{Outcome}
+use Rattle.jav_parse_unit.specs.UnitRules.{unit}
+use Rattle.jav_parse_unit.specs.WholeRules.{limits_for, is_whole, AnswersSorted}
 use Rattle.jav_parse.proofs.Ascending.{ordered, ascending, ascending_alone}
 use Rattle.jav_parse.proofs.Calls.{viable_by, bad_answer, only_err, ok_is, ok_err}
 use Rattle.jav_parse.proofs.FirstBad.{ReadsLanguage}

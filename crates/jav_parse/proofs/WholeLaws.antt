@@ -4,16 +4,16 @@ use Rattle.mol_base.specs.Token.{Token}
 use Rattle.jav_tree.specs.declared.expr.Expr.{Expr}
 use Rattle.jav_tree.specs.Expressions as tree
 use Rattle.jav_tree.specs.Expressions.{Expression, Primary, Arguments, Init}
-use Rattle.jav_cursor.specs.declared.limits.Limits.{Limits}
-use Rattle.jav_expr.specs.declared.primary.Goal.TheVariants as goals
-use Rattle.jav_cursor.specs.declared.sort.Sort.TheVariants as sort
-use Rattle.jav_cursor.specs.declared.tall.Shape.{Shape}
-use Rattle.jav_cursor.specs.declared.tall.Shape.TheVariants.{Target, Invocation, Atom}
-use Rattle.jav_expr.specs.ExprRules.{expr, target, inside}
-use Rattle.jav_expr.specs.PrimaryRules.{part, stepping}
+use Rattle.jav_parse_cursor.specs.declared.limits.Limits.{Limits}
+use Rattle.jav_parse_expr.specs.declared.primary.Goal.TheVariants as goals
+use Rattle.jav_parse_cursor.specs.declared.sort.Sort.TheVariants as sort
+use Rattle.jav_parse_cursor.specs.declared.tall.Shape.{Shape}
+use Rattle.jav_parse_cursor.specs.declared.tall.Shape.TheVariants.{Target, Invocation, Atom}
+use Rattle.jav_parse_expr.specs.ExprRules.{expr, target, inside}
+use Rattle.jav_parse_expr.specs.PrimaryRules.{part, stepping}
 use Rattle.jav_parse.proofs.PartSteps.{sized, near_stepping, part_ends}
 use Rattle.jav_parse.proofs.ReadingSteps.{Ends, no_link, ends_not}
-use Rattle.jav_expr.proofs.AtHeight.{expr_is}
+use Rattle.jav_parse_expr.proofs.AtHeight.{expr_is}
 use Rattle.jav_parse.proofs.WholeReadings.{Short, PartRead, ExprRead, ArgumentsRead, InitRead}
 
 -- the shape as the parser has it

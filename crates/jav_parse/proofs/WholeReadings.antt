@@ -4,26 +4,26 @@ use Rattle.mol_base.specs.Token.{Token}
 use Rattle.jav_tree.specs.declared.types.TypeName.{TypeName}
 use Rattle.jav_tree.specs.declared.expr.Expr.{Expr}
 use Rattle.jav_tree.specs.Tokens.{start_of}
-use Rattle.jav_cursor.specs.declared.limits.Limits.{Limits}
-use Rattle.jav_expr.specs.declared.primary.Goal.TheVariants.{Level, Init}
-use Rattle.jav_expr.specs.declared.primary.Rooms.{Rooms}
-use Rattle.jav_cursor.specs.declared.sort.Sort.{Sort}
-use Rattle.jav_cursor.specs.declared.sort.Sort.TheVariants as sort
-use Rattle.jav_cursor.specs.declared.tall.Shape.{Shape}
-use Rattle.jav_cursor.specs.declared.tall.Shape.TheVariants.{Array}
-use Rattle.jav_cursor.specs.declared.tall.Tall.{Tall}
-use Rattle.jav_cursor.specs.declared.tall.Listed.{Listed}
-use Rattle.jav_expr.specs.ExprRules.{level_of, is_assignment, climb, operand, operators, level, expr, inside}
-use Rattle.jav_expr.specs.PrimaryRules as rule
-use Rattle.jav_expr.specs.PrimaryRules.{arguments, items, further_sizes}
-use Rattle.jav_cursor.specs.Reading.{and_then, sort as next}
-use Rattle.jav_cursor.specs.Sorts.{same_sort, sort_of}
+use Rattle.jav_parse_cursor.specs.declared.limits.Limits.{Limits}
+use Rattle.jav_parse_expr.specs.declared.primary.Goal.TheVariants.{Level, Init}
+use Rattle.jav_parse_expr.specs.declared.primary.Rooms.{Rooms}
+use Rattle.jav_parse_cursor.specs.declared.sort.Sort.{Sort}
+use Rattle.jav_parse_cursor.specs.declared.sort.Sort.TheVariants as sort
+use Rattle.jav_parse_cursor.specs.declared.tall.Shape.{Shape}
+use Rattle.jav_parse_cursor.specs.declared.tall.Shape.TheVariants.{Array}
+use Rattle.jav_parse_cursor.specs.declared.tall.Tall.{Tall}
+use Rattle.jav_parse_cursor.specs.declared.tall.Listed.{Listed}
+use Rattle.jav_parse_expr.specs.ExprRules.{level_of, is_assignment, climb, operand, operators, level, expr, inside}
+use Rattle.jav_parse_expr.specs.PrimaryRules as rule
+use Rattle.jav_parse_expr.specs.PrimaryRules.{arguments, items, further_sizes}
+use Rattle.jav_parse_cursor.specs.Reading.{and_then, sort as next}
+use Rattle.jav_parse_cursor.specs.Sorts.{same_sort, sort_of}
 use Rattle.jav_parse.proofs.FirstTokens.{Begins}
 use Rattle.jav_parse.proofs.ListSteps.{joined, first_argument, first_item}
 use Rattle.jav_parse.proofs.OperatorSteps.{climb_stops, operators_climb, chosen_after, chosen_ends, no_assignment}
 use Rattle.jav_parse.proofs.PartSteps.{sized, room, Near, ReachesPart}
 use Rattle.jav_parse.proofs.ReadingSteps.{IsNot, Ends, ends_level}
-use Rattle.jav_expr.proofs.AtHeight.{expr_is}
+use Rattle.jav_parse_expr.proofs.AtHeight.{expr_is}
 
 -- Limits within which trees are made.
 pub record Builds (l : Limits) : Type 0 where

@@ -4,18 +4,18 @@ use Rattle.mol_base.specs.Token.{Token}
 use Rattle.jav_tree.specs.declared.expr.Expr.{Expr}
 use Rattle.jav_tree.specs.Expressions as tree
 use Rattle.jav_tree.specs.Expressions.{Expression, Primary, BeforeDot, ArrayCreation, Arguments, Items, Init}
-use Rattle.jav_cursor.specs.declared.limits.Limits.{Limits}
-use Rattle.jav_expr.specs.declared.primary.Rooms.{Rooms}
-use Rattle.jav_cursor.specs.declared.tall.Shape.{Shape}
-use Rattle.jav_cursor.specs.declared.tall.Shape.TheVariants.{Target, Invocation, Atom, Array, Loose}
-use Rattle.jav_cursor.specs.declared.tall.Tall.{Tall}
-use Rattle.jav_cursor.specs.declared.tall.Listed.{Listed}
-use Rattle.jav_cursor.specs.Nodes as made
-use Rattle.jav_expr.specs.PrimaryRules.{Inside, free}
-use Rattle.jav_cursor.specs.Reading.{Parser}
-use Rattle.jav_expr.specs.declared.primary.Goal.{Goal}
-use Rattle.jav_expr.specs.declared.primary.Goal.TheVariants.{Level, After}
-use Rattle.jav_expr.specs.declared.primary.Goal.TheVariants as goals
+use Rattle.jav_parse_cursor.specs.declared.limits.Limits.{Limits}
+use Rattle.jav_parse_expr.specs.declared.primary.Rooms.{Rooms}
+use Rattle.jav_parse_cursor.specs.declared.tall.Shape.{Shape}
+use Rattle.jav_parse_cursor.specs.declared.tall.Shape.TheVariants.{Target, Invocation, Atom, Array, Loose}
+use Rattle.jav_parse_cursor.specs.declared.tall.Tall.{Tall}
+use Rattle.jav_parse_cursor.specs.declared.tall.Listed.{Listed}
+use Rattle.jav_parse_cursor.specs.Nodes as made
+use Rattle.jav_parse_expr.specs.PrimaryRules.{Inside, free}
+use Rattle.jav_parse_cursor.specs.Reading.{Parser}
+use Rattle.jav_parse_expr.specs.declared.primary.Goal.{Goal}
+use Rattle.jav_parse_expr.specs.declared.primary.Goal.TheVariants.{Level, After}
+use Rattle.jav_parse_expr.specs.declared.primary.Goal.TheVariants as goals
 use Rattle.jav_parse.proofs.Meets.{Spelling, Some_of, Reads}
 use Rattle.jav_parse.proofs.Samples.{a_name}
 use Rattle.jav_parse.proofs.TokenSorts.{name_is}

@@ -6,10 +6,10 @@ use denote.Enum.Bare.{same_true, true_same}
 use Rattle.mol_base.specs.Token.{Token}
 use Rattle.mol_base.specs.declared.token_kind.TokenKind.{TokenKind}
 use Rattle.mol_base.specs.declared.token_kind.TokenKind.TheVariants as kind
-use Rattle.jav_cursor.specs.contracts.sort.Sort.{the_type}
-use Rattle.jav_cursor.specs.declared.sort.Sort.{Sort}
-use Rattle.jav_cursor.specs.declared.sort.Sort.TheVariants as sort
-use Rattle.jav_cursor.specs.Sorts.{same_sort, looked_up, symbols, keywords, by_kind, sort_of}
+use Rattle.jav_parse_cursor.specs.contracts.sort.Sort.{the_type}
+use Rattle.jav_parse_cursor.specs.declared.sort.Sort.{Sort}
+use Rattle.jav_parse_cursor.specs.declared.sort.Sort.TheVariants as sort
+use Rattle.jav_parse_cursor.specs.Sorts.{same_sort, looked_up, symbols, keywords, by_kind, sort_of}
 
 -- two sorts that test as the same are the same
 pub is_same : (a b : Sort) → same_sort a b ≡ true → a ≡ b

@@ -3,5 +3,5 @@
 
 mod reading;
 
-pub use jav_rules::{Feature, ParseFault};
+pub use jav_parse_unit::{Feature, ParseFault};
 pub use reading::{parse, parse_body, parse_expr, parse_member, parse_type};

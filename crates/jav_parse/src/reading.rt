@@ -7,12 +7,12 @@ ghost use Rattle.jav_tree.specs.declared.types.TypeName.{TypeName as TypeTree};
 ghost use Rattle.jav_tree.specs.declared.unit.Member.{Member as MemberTree};
 ghost use Rattle.jav_tree.specs.declared.unit.Unit.{Unit as UnitTree};
 ghost use Rattle.jav_tree.specs.Trees.{IsUnit, IsMember, IsBody, IsExpr, IsType};
-ghost use Rattle.jav_rules.specs.declared.fault.ParseFault.{ParseFault as Fault};
-ghost use Rattle.jav_rules.specs.BadToken as bad_token;
-ghost use Rattle.jav_rules.specs.BadToken.{most_items, most_height, IsFault};
+ghost use Rattle.jav_parse_unit.specs.declared.fault.ParseFault.{ParseFault as Fault};
+ghost use Rattle.jav_parse_unit.specs.BadToken as bad_token;
+ghost use Rattle.jav_parse_unit.specs.BadToken.{most_items, most_height, IsFault};
 
 use jav_lex::Token;
-use jav_rules::{ParseFault, read_body, read_expr, read_member, read_type, read_unit};
+use jav_parse_unit::{ParseFault, read_body, read_expr, read_member, read_type, read_unit};
 use jav_tree::{Block, Expr, Member, TypeName, Unit};
 use mol_base::List;
 use std::alloc::Global;

@@ -5,8 +5,8 @@ use Rattle.jav_tree.specs.declared.types.TypeName.{TypeName}
 use Rattle.jav_tree.specs.declared.unit.Unit.{Unit as Source}
 use Rattle.jav_tree.specs.Layout.{body_alone, unit_text}
 use Rattle.jav_tree.specs.TypeText.{type_text}
-use Rattle.jav_layout.specs.ParsesBack.{UnitBack, BodyBack, TypeBack}
-use Rattle.jav_layout.proofs.Back.{units_parse_back, bodies_parse_back, types_parse_back}
+use Rattle.jav_print_laws.specs.layout.ParsesBack.{UnitBack, BodyBack, TypeBack}
+use Rattle.jav_print_laws.proofs.layout_lemmas.Back.{units_parse_back, bodies_parse_back, types_parse_back}
 
 pub unit_back : (text : List ℕ) (u : Source) → text ≡ unit_text u → UnitBack text u
 unit_back text u same = rw same (units_parse_back u)

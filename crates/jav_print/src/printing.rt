@@ -1,6 +1,6 @@
 //! Whole texts.
 ghost use Rattle.std.specs.Prelude.{◌≡◌, IfOk};
-ghost use Rattle.jav_layout.specs.ParsesBack.{BodyBack, TypeBack, UnitBack};
+ghost use Rattle.jav_print_laws.specs.layout.ParsesBack.{BodyBack, TypeBack, UnitBack};
 ghost use Rattle.jav_tree.specs.Layout.{body_alone, unit_text};
 ghost use Rattle.jav_tree.specs.TypeText.{type_text};
 

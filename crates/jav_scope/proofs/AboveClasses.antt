@@ -10,19 +10,19 @@ use Rattle.jav_tree.specs.declared.types.TypeName.TheOpen.{TypeName-F}
 use Rattle.jav_tree.specs.declared.types.TypeName.TheVariants as types
 use Rattle.jav_tree.specs.declared.types.TypeName.TheViews.{roll-TypeName}
 use Rattle.jav_tree.specs.declared.unit.Unit.{Unit}
-use Rattle.jav_view.specs.Ancestors.{HasClass}
-use Rattle.jav_view.specs.DottedNames.{Name, Names, cut}
-use Rattle.jav_view.specs.LookUps.{has_class, class_in, is_outside, found_or, type_named}
-use Rattle.jav_view.specs.TypeTexts.{type_of, type_in}
-use Rattle.jav_view.specs.Types.{TypeReading, class_read, imported, written, no_type, ReadsType}
-use Rattle.jav_view.specs.UnitViews.{numbered, classes_of, header_of, superclass_of, view_of}
-use Rattle.jav_view.specs.Views.{ViewType}
-use Rattle.jav_view.proofs.FoundNames.{types_stand}
-use Rattle.jav_view.proofs.NamesAnswered.{types_answered}
-use Rattle.jav_view.proofs.UnitsOrdered.{classes_of-ordered}
-use Rattle.jav_view.proofs.UnitsViewed.{units_viewed}
-use Rattle.jav_view.proofs.Ways.{has_class-decides}
-use Rattle.jav_view.proofs.WrittenTypes.{type_in-Prim, type_in-Named, type_in-ArrayOf, type_in-Void}
+use Rattle.jav_names.specs.Ancestors.{HasClass}
+use Rattle.jav_names.specs.DottedNames.{Name, Names, cut}
+use Rattle.jav_names.specs.LookUps.{has_class, class_in, is_outside, found_or, type_named}
+use Rattle.jav_names.specs.TypeTexts.{type_of, type_in}
+use Rattle.jav_names.specs.Types.{TypeReading, class_read, imported, written, no_type, ReadsType}
+use Rattle.jav_names.specs.UnitViews.{numbered, classes_of, header_of, superclass_of, view_of}
+use Rattle.jav_names.specs.Views.{ViewType}
+use Rattle.jav_names.proofs.FoundNames.{types_stand}
+use Rattle.jav_names.proofs.NamesAnswered.{types_answered}
+use Rattle.jav_names.proofs.UnitsOrdered.{classes_of-ordered}
+use Rattle.jav_names.proofs.UnitsViewed.{units_viewed}
+use Rattle.jav_names.proofs.Ways.{has_class-decides}
+use Rattle.jav_names.proofs.WrittenTypes.{type_in-Prim, type_in-Named, type_in-ArrayOf, type_in-Void}
 use Rattle.jav_scope.specs.Answers.{answered, type_answered, superclass_answered}
 use Rattle.jav_scope.specs.Climbs.{above}
 use Rattle.jav_scope.specs.Entries.{units_of, classes_in}

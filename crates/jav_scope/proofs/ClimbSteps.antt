@@ -1,6 +1,6 @@
 -- One step up.
 use Rattle.std.proofs.Common.{◌≡◌, ℕ, zero, suc, ◌<◌, ◌-◌, Option, Some, None, refl, arith}
-use Rattle.jav_view.specs.Views.{View, Found, found, outside, not_found}
+use Rattle.jav_names.specs.Views.{View, Found, found, outside, not_found}
 use Rattle.jav_scope.specs.Answers.{answered}
 use Rattle.jav_scope.specs.Climbs.{above, look_from, climb}
 use Rattle.jav_scope.specs.declared.found.Found.TheVariants as answer

@@ -2,10 +2,10 @@
 use Rattle.std.proofs.Common.{◌≡◌, ◌⊎◌, inl, inr, ℕ, zero, suc, Bool, true, false, cond, List, [], ◌∷◌, length, Option, Some, None, Contains, find, ◌&&◌, refl, sym, ◌∙◌, ap}
 use Rattle.std.specs.Option.{option_or}
 use Rattle.std.specs.Ordering.{is_eq}
-use Rattle.jav_view.specs.LookUps.{class_above, is_outside, is_met, unmet, each_above, way_from, way, last_extends_outside, ends_outside, nearest, found_or}
-use Rattle.jav_view.specs.Views.{View, AreOrdered, Found, not_found}
-use Rattle.jav_view.proofs.Lists.{stands_first, stands_later, stands_where, stands_nowhere}
-use Rattle.jav_view.proofs.Ways.{class_above-is, is_met-decides}
+use Rattle.jav_names.specs.LookUps.{class_above, is_outside, is_met, unmet, each_above, way_from, way, last_extends_outside, ends_outside, nearest, found_or}
+use Rattle.jav_names.specs.Views.{View, AreOrdered, Found, not_found}
+use Rattle.jav_names.proofs.Lists.{stands_first, stands_later, stands_where, stands_nowhere}
+use Rattle.jav_names.proofs.Ways.{class_above-is, is_met-decides}
 use Rattle.jav_scope.specs.Climbs.{found_first, look_from, climb}
 
 module _ {X C M : Type 0} (view : View C M) (ordered : AreOrdered view.classes) (owner : X → C) (p : X → Bool) (all : List X) where

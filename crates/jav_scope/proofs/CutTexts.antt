@@ -7,11 +7,11 @@ use Rattle.std.specs.Str.Pattern.{RFindsChar}
 use Rattle.std.proofs.lemmas.List.{get_or_default, take-append-drop}
 use Rattle.std.proofs.lemmas.List.Elements.{All-nil}
 use Rattle.std.proofs.lemmas.Str.Pattern.{NoCharPasses-char, drop_at_char}
-use Rattle.jav_view.specs.DottedNames.{Name, Names, dot, HasNoDot, joined, Dotted, cut, last_of, simple_name}
-use Rattle.jav_view.specs.LookUps.{class_named, class_or_written, simple_type, type_named, with_more}
-use Rattle.jav_view.specs.Types.{Header, TypeReading, class_read, imported, written, no_type}
-use Rattle.jav_view.specs.Views.{Classes}
-use Rattle.jav_view.proofs.CutNames.{names_cut}
+use Rattle.jav_names.specs.DottedNames.{Name, Names, dot, HasNoDot, joined, Dotted, cut, last_of, simple_name}
+use Rattle.jav_names.specs.LookUps.{class_named, class_or_written, simple_type, type_named, with_more}
+use Rattle.jav_names.specs.Types.{Header, TypeReading, class_read, imported, written, no_type}
+use Rattle.jav_names.specs.Views.{Classes}
+use Rattle.jav_names.proofs.CutNames.{names_cut}
 
 abbrev pub DotsNowhere : Name → Type 0
 DotsNowhere text = (i : ℕ) → i < length text → get_or text i 0 ≢ dot

@@ -1,9 +1,9 @@
 -- The fewest names that spell a class, name by name.
 use Rattle.std.proofs.Common.{◌≡◌, ℕ, zero, suc, ◌<◌, ◌≤◌, [], ◌∷◌, ◌++◌, length, take, Some, None, refl, ◌∙◌, ap, arith}
 use Rattle.std.proofs.lemmas.List.{append_assoc}
-use Rattle.jav_view.specs.DottedNames.{Name, Names, dot, joined}
-use Rattle.jav_view.specs.LookUps.{class_named, fewest}
-use Rattle.jav_view.specs.Views.{ViewClass, Classes}
+use Rattle.jav_names.specs.DottedNames.{Name, Names, dot, joined}
+use Rattle.jav_names.specs.LookUps.{class_named, fewest}
+use Rattle.jav_names.specs.Views.{ViewClass, Classes}
 
 joined-longer : (text next : Name) (rest : Names) → joined (text ++ dot ∷ next) rest ≡ text ++ dot ∷ joined next rest
 joined-longer text next [] = refl

@@ -11,12 +11,12 @@ use Rattle.std.specs.Ordering.{is_eq, ordering_then}
 use Rattle.std.proofs.lemmas.Bool.Decides.{same_from_decides}
 use Rattle.std.proofs.lemmas.Cmp.{tied_itself, nat_list_cmp_total}
 use Rattle.std.proofs.lemmas.Slice.Eq.{bytes_eq-Decides}
-use Rattle.jav_view.specs.DottedNames.{Name}
-use Rattle.jav_view.proofs.UnitsOrdered.{nat_cmp-IsKeyOrder}
-use Rattle.jav_view.proofs.Ways.{same_key}
-use Rattle.jav_index.specs.Seeking.{is_sought}
-use Rattle.jav_index.specs.declared.entry.Entry.{Entry}
-use Rattle.jav_index.proofs.Searched.{find-same, equal-is}
+use Rattle.jav_names.specs.DottedNames.{Name}
+use Rattle.jav_names.proofs.UnitsOrdered.{nat_cmp-IsKeyOrder}
+use Rattle.jav_names.proofs.Ways.{same_key}
+use Rattle.jav_names.specs.index.Seeking.{is_sought}
+use Rattle.jav_names.specs.declared.index.entry.Entry.{Entry}
+use Rattle.jav_names.proofs.index_lemmas.Searched.{find-same, equal-is}
 
 -- ---- lists
 

@@ -2,11 +2,11 @@
 use Rattle.std.proofs.Common.{◌≡◌, ℕ, ◌==◌, Bool, true, false, cond, not, ◌&&◌, ◌||◌, List, [], ◌∷◌, Option, Some, None, is_some, option_map, find, ◌≢◌, ne_eqb, refl, sym, ◌∙◌, ap, nat_cmp}
 use Rattle.std.specs.List.{list_any}
 use Rattle.std.specs.Ordering.{is_eq}
-use Rattle.jav_view.specs.LookUps.{is_constructor, declares_constructor, constructor_or, constructor_from}
-use Rattle.jav_view.specs.UnitViews.{MemberKey}
-use Rattle.jav_view.specs.Views.{ViewDeclaration}
-use Rattle.jav_index.specs.Seeking.{is_sought}
-use Rattle.jav_index.specs.declared.entry.Entry.{Entry}
+use Rattle.jav_names.specs.LookUps.{is_constructor, declares_constructor, constructor_or, constructor_from}
+use Rattle.jav_names.specs.UnitViews.{MemberKey}
+use Rattle.jav_names.specs.Views.{ViewDeclaration}
+use Rattle.jav_names.specs.index.Seeking.{is_sought}
+use Rattle.jav_names.specs.declared.index.entry.Entry.{Entry}
 use Rattle.jav_scope.specs.Answers.{answered, entry_ref, declaration_ref, constructor_ref}
 use Rattle.jav_scope.specs.Entries.{units_of, view_in}
 use Rattle.jav_scope.specs.MemberLists.{constructor_entry, owner_entry, AreIndexed}

@@ -3,13 +3,13 @@ use Rattle.std.proofs.Common.{◌≡◌, ℕ, zero, suc, ◌==◌, Bool, true, f
 use Rattle.std.specs.Ordering.{is_eq}
 use Rattle.std.proofs.lemmas.List.{length-map}
 use Rattle.std.proofs.lemmas.List.FromFn.{length-enumerate_from}
-use Rattle.jav_view.specs.DottedNames.{Name}
-use Rattle.jav_view.specs.LookUps.{way, ends_outside, nearest, found_or, field_from, is_constructor, is_method, method_from}
-use Rattle.jav_view.specs.Members.{is_object_method}
-use Rattle.jav_view.specs.UnitViews.{MemberKey, numbered, class_of}
-use Rattle.jav_view.specs.Views.{ViewField, ViewDeclaration, View, AreOrdered, Found as Result, found, outside, not_found}
-use Rattle.jav_view.proofs.UnitsOrdered.{classes_of-ordered}
-use Rattle.jav_index.specs.Seeking.{is_sought}
+use Rattle.jav_names.specs.DottedNames.{Name}
+use Rattle.jav_names.specs.LookUps.{way, ends_outside, nearest, found_or, field_from, is_constructor, is_method, method_from}
+use Rattle.jav_names.specs.Members.{is_object_method}
+use Rattle.jav_names.specs.UnitViews.{MemberKey, numbered, class_of}
+use Rattle.jav_names.specs.Views.{ViewField, ViewDeclaration, View, AreOrdered, Found as Result, found, outside, not_found}
+use Rattle.jav_names.proofs.UnitsOrdered.{classes_of-ordered}
+use Rattle.jav_names.specs.index.Seeking.{is_sought}
 use Rattle.jav_scope.specs.Answers.{answered, entry_ref, field_ref, declaration_ref, or_of_object}
 use Rattle.jav_scope.specs.Climbs.{above, found_first, look_from, climb}
 use Rattle.jav_scope.specs.Entries.{units_of, view_in}

@@ -1,12 +1,12 @@
 -- What the first of several names is found to be, as the name of a class or as the beginning of one.
 use Rattle.std.proofs.Common.{◌≡◌, ◌⊎◌, inl, inr, ℕ, suc, ◌+◌, ◌<◌, ◌≤◌, ◌∷◌, length, take, Option, Some, None, option_map, refl, ◌∙◌, sym, ap, arith}
-use Rattle.jav_view.specs.DottedNames.{Name, Names, joined}
-use Rattle.jav_view.specs.LookUps.{class_named, class_or_outside, fewest, leftmost_type}
-use Rattle.jav_view.specs.Types.{TypeReading, class_read, imported, written, no_type}
-use Rattle.jav_view.specs.UnitViews.{MemberKey}
-use Rattle.jav_view.specs.Views.{ViewClass, Classes}
-use Rattle.jav_index.specs.Spelled.{joined_names}
-use Rattle.jav_index.proofs.Searched.{below-or_from}
+use Rattle.jav_names.specs.DottedNames.{Name, Names, joined}
+use Rattle.jav_names.specs.LookUps.{class_named, class_or_outside, fewest, leftmost_type}
+use Rattle.jav_names.specs.Types.{TypeReading, class_read, imported, written, no_type}
+use Rattle.jav_names.specs.UnitViews.{MemberKey}
+use Rattle.jav_names.specs.Views.{ViewClass, Classes}
+use Rattle.jav_names.specs.index.Spelled.{joined_names}
+use Rattle.jav_names.proofs.index_lemmas.Searched.{below-or_from}
 use Rattle.jav_scope.specs.Answers.{reading_of, leftmost_answered}
 use Rattle.jav_scope.specs.declared.found.Found.TheVariants as answer
 use Rattle.jav_scope.specs.declared.found.Leftmost.TheVariants as leftmost

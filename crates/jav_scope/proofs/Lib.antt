@@ -1,16 +1,20 @@
-pub mod Finding
-mod NamesFound
-pub mod CutTexts
-mod TypesFound
 mod AboveClasses
-pub mod Climbing
 pub mod ClimbSteps
-pub mod Numbered
-mod MembersListed
-mod MemberOwners
-pub mod FoundMembers
-mod FoundConstructors
-mod NamePlaces
+pub mod Climbing
+pub mod CutTexts
 pub mod FewestNames
+pub mod Finding
+mod FoundConstructors
+pub mod FoundMembers
 mod LeftmostFound
+mod MemberOwners
+mod MembersListed
+mod NamePlaces
+mod NamesFound
+pub mod Numbered
+mod TypesFound
 mod VariablesFound
+pub mod ancestors_lemmas
+pub mod ascent_lemmas
+pub mod imports_lemmas
+pub mod typenames_lemmas

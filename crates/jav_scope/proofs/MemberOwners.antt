@@ -4,9 +4,9 @@ use Rattle.std.specs.List.{AllByRecursion, enumerate_from, cons_option}
 use Rattle.jav_tree.specs.declared.unit.Member.{Member}
 use Rattle.jav_tree.specs.declared.unit.Member.TheVariants as member
 use Rattle.jav_tree.specs.declared.unit.Unit.{Unit}
-use Rattle.jav_view.specs.UnitViews.{MemberKey, numbered, field_in, declaration_in, view_of, classes_of}
-use Rattle.jav_view.specs.Views.{ViewField, ViewDeclaration, Classes}
-use Rattle.jav_view.proofs.UnitsOrdered.{each-append}
+use Rattle.jav_names.specs.UnitViews.{MemberKey, numbered, field_in, declaration_in, view_of, classes_of}
+use Rattle.jav_names.specs.Views.{ViewField, ViewDeclaration, Classes}
+use Rattle.jav_names.proofs.UnitsOrdered.{each-append}
 
 -- P holds of all that members are made into
 module _ {X : Type 0} (P : X → Type 0) (made : ℕ × Unit → ℕ × Member → Option X)

@@ -5,14 +5,14 @@ use Rattle.jav_tree.specs.declared.unit.Ctor.{Ctor}
 use Rattle.jav_tree.specs.declared.unit.Field.{Field}
 use Rattle.jav_tree.specs.declared.unit.Member.TheVariants as member
 use Rattle.jav_tree.specs.declared.unit.Method.{Method}
-use Rattle.jav_view.specs.DottedNames.{Name}
-use Rattle.jav_view.specs.LookUps.{is_constructor}
-use Rattle.jav_view.specs.UnitViews.{MemberKey}
-use Rattle.jav_view.specs.Views.{ViewField, static_method, instance_method, ViewDeclaration}
+use Rattle.jav_names.specs.DottedNames.{Name}
+use Rattle.jav_names.specs.LookUps.{is_constructor}
+use Rattle.jav_names.specs.UnitViews.{MemberKey}
+use Rattle.jav_names.specs.Views.{ViewField, static_method, instance_method, ViewDeclaration}
 use Rattle.jav_scope.specs.MemberLists.{field_entry, method_entry, constructor_entry, owner_entry, methods_in, constructors_in, place_entry, AreListed, AreAdded, IsAdded}
 use Rattle.jav_scope.specs.declared.found.MemberRef.{MemberRef}
 use Rattle.jav_scope.specs.declared.member_entries.MemberEntries.{MemberEntries}
-use Rattle.jav_index.specs.declared.entry.Entry.{Entry}
+use Rattle.jav_names.specs.declared.index.entry.Entry.{Entry}
 
 filter-more : {X : Type 0} (p : X → Bool) (xs : List X) (x : X) → filter p (xs ++ x ∷ []) ≡ filter p xs ++ cond (p x) (x ∷ []) []
 filter-more p [] x = refl

@@ -2,8 +2,8 @@
 use Rattle.std.proofs.Common.{◌≡◌, ℕ, zero, suc, ◌+◌, ◌<◌, Bool, true, false, cond, [], ◌∷◌, ◌++◌, length, take, get_or, Option, Some, None, option_map, refl, sym, ◌∙◌, ap, arith, bytes_eq}
 use Rattle.std.specs.Option.{option_or}
 use Rattle.std.proofs.lemmas.List.{take_more, length-take-le}
-use Rattle.jav_view.specs.DottedNames.{Name, Names}
-use Rattle.jav_view.specs.LookUps.{first_place, last_place}
+use Rattle.jav_names.specs.DottedNames.{Name, Names}
+use Rattle.jav_names.specs.LookUps.{first_place, last_place}
 
 -- one more name at the end
 first_place-push : (name : Name) (names : Names) (next : Name) → first_place name names ≡ None

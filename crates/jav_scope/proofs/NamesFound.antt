@@ -6,13 +6,13 @@ use Rattle.std.specs.Ordering.{is_eq}
 use Rattle.std.proofs.lemmas.Cmp.{tied_itself, nat_cmp_total}
 use Rattle.std.proofs.lemmas.Option.{slice_get-map}
 use Rattle.jav_tree.specs.declared.unit.Unit.{Unit}
-use Rattle.jav_view.specs.DottedNames.{Name, simple_name}
-use Rattle.jav_view.specs.LookUps.{class_named, import_of}
-use Rattle.jav_view.specs.Types.{full_name}
-use Rattle.jav_view.specs.UnitViews.{numbered, class_of}
-use Rattle.jav_view.specs.Views.{ViewClass}
-use Rattle.jav_index.specs.Seeking.{is_sought, FindsSame}
-use Rattle.jav_index.specs.declared.entry.Entry.{Entry}
+use Rattle.jav_names.specs.DottedNames.{Name, simple_name}
+use Rattle.jav_names.specs.LookUps.{class_named, import_of}
+use Rattle.jav_names.specs.Types.{full_name}
+use Rattle.jav_names.specs.UnitViews.{numbered, class_of}
+use Rattle.jav_names.specs.Views.{ViewClass}
+use Rattle.jav_names.specs.index.Seeking.{is_sought, FindsSame}
+use Rattle.jav_names.specs.declared.index.entry.Entry.{Entry}
 use Rattle.jav_scope.specs.Entries.{units_of, classes_in, class_entry, import_entry, import_entries}
 use Rattle.jav_scope.specs.declared.source.SourceUnit.{SourceUnit}
 use Rattle.jav_scope.proofs.Finding.{find-map, find-append, find-never, option_map-twice, found-made, sought-is, sought-of_other}

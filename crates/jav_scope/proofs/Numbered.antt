@@ -6,7 +6,7 @@ use Rattle.std.proofs.lemmas.List.{take_more, length-take-le, length-map, map-ap
 use Rattle.std.proofs.lemmas.List.Concat.{flat_map-append}
 use Rattle.std.proofs.lemmas.List.Elements.{filter_map-append}
 use Rattle.jav_tree.specs.declared.unit.Unit.{Unit}
-use Rattle.jav_view.specs.UnitViews.{numbered}
+use Rattle.jav_names.specs.UnitViews.{numbered}
 use Rattle.jav_scope.specs.Entries.{units_of}
 use Rattle.jav_scope.specs.declared.source.SourceUnit.{SourceUnit}
 

@@ -1,9 +1,9 @@
 -- What the names of types are found to be.
 use Rattle.std.proofs.Common.{◌≡◌, ℕ, true, false, [], ◌∷◌, Option, Some, None, option_map, refl, sym, ◌∙◌, ap, bytes_eq, if◌then◌else◌}
-use Rattle.jav_view.specs.DottedNames.{Name, joined}
-use Rattle.jav_view.specs.LookUps.{class_named, import_of, own_named, class_or_imported, class_or_written, own_or_near, simple_by_import, simple_type}
-use Rattle.jav_view.specs.Types.{Header, TypeReading, class_read, imported, written, no_type}
-use Rattle.jav_view.specs.Views.{ViewClass, Classes}
+use Rattle.jav_names.specs.DottedNames.{Name, joined}
+use Rattle.jav_names.specs.LookUps.{class_named, import_of, own_named, class_or_imported, class_or_written, own_or_near, simple_by_import, simple_type}
+use Rattle.jav_names.specs.Types.{Header, TypeReading, class_read, imported, written, no_type}
+use Rattle.jav_names.specs.Views.{ViewClass, Classes}
 use Rattle.jav_scope.specs.Answers.{reading_of, reading_answered, type_answered}
 use Rattle.jav_scope.specs.declared.found.Found.TheVariants as answer
 use Rattle.jav_scope.specs.declared.reading.Reading.TheVariants as reading

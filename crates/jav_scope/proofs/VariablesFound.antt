@@ -1,10 +1,10 @@
 -- What a variable, or the first of several names, is found to be.
 use Rattle.std.proofs.Common.{◌≡◌, ℕ, Option, Some, None, refl, ◌∙◌, ap}
-use Rattle.jav_view.specs.Leftmost.{Leftmost as Read}
-use Rattle.jav_view.specs.LookUps.{local_or, variable_or}
-use Rattle.jav_view.specs.UnitViews.{MemberKey}
-use Rattle.jav_view.specs.Variables.{Variable}
-use Rattle.jav_view.specs.Views.{ViewField, Found as Result, found, outside, not_found}
+use Rattle.jav_names.specs.Leftmost.{Leftmost as Read}
+use Rattle.jav_names.specs.LookUps.{local_or, variable_or}
+use Rattle.jav_names.specs.UnitViews.{MemberKey}
+use Rattle.jav_names.specs.Variables.{Variable}
+use Rattle.jav_names.specs.Views.{ViewField, Found as Result, found, outside, not_found}
 use Rattle.jav_scope.specs.Answers.{answered, field_ref, variable_ref, leftmost_answered}
 use Rattle.jav_scope.specs.declared.found.Found.TheVariants as answer
 use Rattle.jav_scope.specs.declared.found.Leftmost.TheVariants as leftmost

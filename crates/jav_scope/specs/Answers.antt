@@ -1,12 +1,12 @@
 -- The answers of look-ups, as what the functions of the rules find.
 use Rattle.std.specs.Prelude.{ℕ, Bool, Option, Some, None, if◌then◌else◌}
-use Rattle.jav_view.specs.Leftmost.{Leftmost as Read, leftmost_variable, leftmost_class, leftmost_import, leftmost_outside}
-use Rattle.jav_view.specs.Members.{Constructor, declared_constructor, default_constructor}
-use Rattle.jav_view.specs.Types.{TypeReading, class_read, imported, written, no_type}
-use Rattle.jav_view.specs.UnitViews.{MemberKey}
-use Rattle.jav_view.specs.Variables.{Variable, local_variable, parameter_variable, field_variable}
-use Rattle.jav_view.specs.Views.{ViewType, primitive_type, void_type, class_type, outside_type, array_type, unread_type, ViewField, ViewDeclaration, Found as Result, found, outside, not_found}
-use Rattle.jav_index.specs.declared.entry.Entry.{Entry}
+use Rattle.jav_names.specs.Leftmost.{Leftmost as Read, leftmost_variable, leftmost_class, leftmost_import, leftmost_outside}
+use Rattle.jav_names.specs.Members.{Constructor, declared_constructor, default_constructor}
+use Rattle.jav_names.specs.Types.{TypeReading, class_read, imported, written, no_type}
+use Rattle.jav_names.specs.UnitViews.{MemberKey}
+use Rattle.jav_names.specs.Variables.{Variable, local_variable, parameter_variable, field_variable}
+use Rattle.jav_names.specs.Views.{ViewType, primitive_type, void_type, class_type, outside_type, array_type, unread_type, ViewField, ViewDeclaration, Found as Result, found, outside, not_found}
+use Rattle.jav_names.specs.declared.index.entry.Entry.{Entry}
 use Rattle.jav_scope.specs.declared.found.Found.{Found}
 use Rattle.jav_scope.specs.declared.found.Found.TheVariants as answer
 use Rattle.jav_scope.specs.declared.found.Leftmost.{Leftmost}

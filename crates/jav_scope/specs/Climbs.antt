@@ -1,7 +1,7 @@
 -- Going up from a class, to the nearest that has what is looked for.
 use Rattle.std.specs.Prelude.{ℕ, zero, suc, Option, Some, None}
-use Rattle.jav_view.specs.LookUps.{class_above, is_outside, found_or}
-use Rattle.jav_view.specs.Views.{View, Found, found, outside, not_found}
+use Rattle.jav_names.specs.LookUps.{class_above, is_outside, found_or}
+use Rattle.jav_names.specs.Views.{View, Found, found, outside, not_found}
 
 -- what there is above a class: a class of the view, something outside, or nothing that can be looked into
 abbrev pub above : {C M : Type 0} → View C M → C → Found C

@@ -1,12 +1,12 @@
 -- The view of source files, and how their classes and imports stand in an index.
 use Rattle.std.specs.Prelude.{ℕ, List, map, flat_map}
 use Rattle.jav_tree.specs.declared.unit.Unit.{Unit}
-use Rattle.jav_view.specs.DottedNames.{Name, simple_name}
-use Rattle.jav_view.specs.Types.{full_name}
-use Rattle.jav_view.specs.UnitViews.{MemberKey, numbered, class_of, classes_of, view_of}
-use Rattle.jav_view.specs.Views.{Classes, View}
-use Rattle.jav_index.specs.Seeking.{FindsSame}
-use Rattle.jav_index.specs.declared.entry.Entry.{Entry}
+use Rattle.jav_names.specs.DottedNames.{Name, simple_name}
+use Rattle.jav_names.specs.Types.{full_name}
+use Rattle.jav_names.specs.UnitViews.{MemberKey, numbered, class_of, classes_of, view_of}
+use Rattle.jav_names.specs.Views.{Classes, View}
+use Rattle.jav_names.specs.index.Seeking.{FindsSame}
+use Rattle.jav_names.specs.declared.index.entry.Entry.{Entry}
 use Rattle.jav_scope.specs.declared.source.SourceUnit.{SourceUnit}
 
 abbrev pub units_of : List SourceUnit → List Unit

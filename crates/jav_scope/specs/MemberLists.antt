@@ -3,12 +3,12 @@ use Rattle.std.specs.Prelude.{◌≡◌, ℕ, not, List, [], ◌++◌, map, filt
 use Rattle.std.specs.Option.{option_to_list}
 use Rattle.jav_tree.specs.declared.unit.Member.{Member}
 use Rattle.jav_tree.specs.declared.unit.Unit.{Unit}
-use Rattle.jav_view.specs.DottedNames.{Name}
-use Rattle.jav_view.specs.LookUps.{is_constructor}
-use Rattle.jav_view.specs.UnitViews.{MemberKey, field_in, declaration_in}
-use Rattle.jav_view.specs.Views.{ViewField, ViewDeclaration, Classes, View}
-use Rattle.jav_index.specs.Seeking.{is_sought, FindsSame}
-use Rattle.jav_index.specs.declared.entry.Entry.{Entry}
+use Rattle.jav_names.specs.DottedNames.{Name}
+use Rattle.jav_names.specs.LookUps.{is_constructor}
+use Rattle.jav_names.specs.UnitViews.{MemberKey, field_in, declaration_in}
+use Rattle.jav_names.specs.Views.{ViewField, ViewDeclaration, Classes, View}
+use Rattle.jav_names.specs.index.Seeking.{is_sought, FindsSame}
+use Rattle.jav_names.specs.declared.index.entry.Entry.{Entry}
 use Rattle.jav_scope.specs.declared.found.MemberRef.{MemberRef}
 use Rattle.jav_scope.specs.declared.member_entries.MemberEntries.{MemberEntries}
 use Rattle.jav_scope.specs.declared.members.Members.{Members}

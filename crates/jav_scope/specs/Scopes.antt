@@ -1,6 +1,6 @@
 -- What a scope has found of its files.
 use Rattle.std.specs.Prelude.{◌≡◌, ℕ, List, map}
-use Rattle.jav_view.specs.UnitViews.{numbered, superclass_of}
+use Rattle.jav_names.specs.UnitViews.{numbered, superclass_of}
 use Rattle.jav_scope.specs.Answers.{superclass_answered}
 use Rattle.jav_scope.specs.Entries.{units_of, classes_in, view_in}
 use Rattle.jav_scope.specs.MemberLists.{AreIndexed}

@@ -1,11 +1,11 @@
 //! How classes and imports stand in an index.
 ghost use Rattle.std.specs.Prelude.{◌≡◌, ◌++◌, ◌∷◌, IfOk, OnOk, map, flat_map};
-ghost use Rattle.jav_view.specs.DottedNames.{dot, simple_name};
-ghost use Rattle.jav_view.specs.UnitViews.{numbered};
+ghost use Rattle.jav_names.specs.DottedNames.{dot, simple_name};
+ghost use Rattle.jav_names.specs.UnitViews.{numbered};
 ghost use Rattle.jav_scope.specs.Entries.{units_of, class_entry, import_entry, import_entries};
 
 use crate::source::SourceUnit;
-use jav_index::Entry;
+use jav_names::index::Entry;
 use jav_tree::Unit;
 use mol_base::{OutOfMemory, Text, number_of};
 use std::alloc::Global;

@@ -1,8 +1,8 @@
 //! What the first of several names reads as that are joined by dots, where it is no variable.
 ghost use Rattle.std.specs.Prelude.{◌≡◌, ◌<◌, ◌≤◌, ◌^◌, ◌∷◌, Some, length, slice_get};
-ghost use Rattle.jav_view.specs.DottedNames.{Name, Names};
-ghost use Rattle.jav_view.specs.LookUps.{class_or_outside, fewest, leftmost_type, simple_type};
-ghost use Rattle.jav_view.specs.UnitViews.{MemberKey, header_of};
+ghost use Rattle.jav_names.specs.DottedNames.{Name, Names};
+ghost use Rattle.jav_names.specs.LookUps.{class_or_outside, fewest, leftmost_type, simple_type};
+ghost use Rattle.jav_names.specs.UnitViews.{MemberKey, header_of};
 ghost use Rattle.jav_scope.specs.Answers.{leftmost_answered};
 ghost use Rattle.jav_scope.specs.Entries.{classes_in};
 ghost use Rattle.jav_scope.specs.declared.source.SourceUnit.{SourceUnit};
@@ -10,7 +10,7 @@ ghost use Rattle.jav_scope.specs.declared.source.SourceUnit.{SourceUnit};
 use crate::found::{Found, Leftmost};
 use crate::reading::Reading;
 use crate::type_names::TypeNames;
-use jav_index::Spelling;
+use jav_names::Spelling;
 use mol_base::Text;
 
 impl TypeNames<'_> {

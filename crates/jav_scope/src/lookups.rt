@@ -1,7 +1,7 @@
 //! The look-ups of members.
 ghost use Rattle.std.specs.Prelude.{◌≡◌, suc, length, None, not};
 ghost use Rattle.std.specs.List.{list_any};
-ghost use Rattle.jav_view.specs.LookUps.{declares_constructor, field_from, method_from, constructor_or, constructor_from};
+ghost use Rattle.jav_names.specs.LookUps.{declares_constructor, field_from, method_from, constructor_or, constructor_from};
 ghost use Rattle.jav_scope.specs.Answers.{answered, entry_ref, field_ref, declaration_ref, constructor_ref, or_of_object};
 ghost use Rattle.jav_scope.specs.Climbs.{above, climb};
 ghost use Rattle.jav_scope.specs.Entries.{view_in};
@@ -10,7 +10,8 @@ ghost use Rattle.jav_scope.specs.MemberLists.{found_in};
 use crate::found::{Found, MemberRef};
 use crate::object::is_object_method;
 use crate::scope::Scope;
-use jav_index::{Entry, Index, Spelling};
+use jav_names::Spelling;
+use jav_names::index::{Entry, Index};
 use mol_base::Text;
 
 impl Scope<'_> {

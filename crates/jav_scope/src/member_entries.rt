@@ -1,14 +1,14 @@
 //! How members stand in an index.
 ghost use Rattle.std.specs.Prelude.{◌≡◌, ◌++◌, ◌∷◌, [], IfOk, OnOk, ℕ};
 ghost use Rattle.jav_tree.specs.declared.unit.Unit.{Unit};
-ghost use Rattle.jav_view.specs.UnitViews.{fields_of, declarations_of};
-ghost use Rattle.jav_view.specs.Views.{Classes};
+ghost use Rattle.jav_names.specs.UnitViews.{fields_of, declarations_of};
+ghost use Rattle.jav_names.specs.Views.{Classes};
 ghost use Rattle.jav_scope.specs.Entries.{view_in};
 ghost use Rattle.jav_scope.specs.MemberLists.{AreListed, AreAdded, IsAdded, place_entry};
 
 use crate::found::MemberRef;
 use crate::source::SourceUnit;
-use jav_index::Entry;
+use jav_names::index::Entry;
 use jav_tree::Member;
 use mol_base::{OutOfMemory, Text, number_of};
 use std::alloc::Global;

@@ -5,7 +5,7 @@ ghost use Rattle.jav_scope.specs.MemberLists.{AreIndexed};
 
 use crate::member_entries::MemberEntries;
 use crate::source::SourceUnit;
-use jav_index::Index;
+use jav_names::index::Index;
 use mol_base::OutOfMemory;
 use std::alloc::Global;
 

@@ -2,7 +2,7 @@
 ghost use Rattle.std.specs.Prelude.{◌≡◌, ◌==◌, ◌&&◌};
 ghost use Rattle.std.specs.List.{list_any};
 ghost use Rattle.std.specs.Str.{bytes_eq};
-ghost use Rattle.jav_view.specs.Members.{is_object_method};
+ghost use Rattle.jav_names.specs.Members.{is_object_method};
 
 use mol_base::Text;
 

@@ -1,6 +1,6 @@
 //! Places of names in lists.
 ghost use Rattle.std.specs.Prelude.{◌≡◌, ◌<◌, ◌^◌, length};
-ghost use Rattle.jav_view.specs.LookUps.{first_place, last_place};
+ghost use Rattle.jav_names.specs.LookUps.{first_place, last_place};
 
 use mol_base::Text;
 

@@ -1,9 +1,9 @@
 //! The scope of a list of source files.
 ghost use Rattle.std.specs.Prelude.{◌≡◌, ◌<◌, IfOk, Some, length, option_copied, option_map, slice_get};
-ghost use Rattle.jav_view.specs.DottedNames.{cut};
-ghost use Rattle.jav_index.specs.Spelled.{spelled};
-ghost use Rattle.jav_view.specs.LookUps.{class_named, import_of, type_named};
-ghost use Rattle.jav_view.specs.UnitViews.{header_of};
+ghost use Rattle.jav_names.specs.DottedNames.{cut};
+ghost use Rattle.jav_names.specs.index.Spelled.{spelled};
+ghost use Rattle.jav_names.specs.LookUps.{class_named, import_of, type_named};
+ghost use Rattle.jav_names.specs.UnitViews.{header_of};
 ghost use Rattle.jav_scope.specs.Answers.{type_answered};
 ghost use Rattle.jav_scope.specs.Entries.{classes_in};
 ghost use Rattle.jav_scope.specs.declared.source.SourceUnit.{SourceUnit};
@@ -13,7 +13,7 @@ use crate::members::Members;
 use crate::source::SourceUnit;
 use crate::superclasses::superclasses;
 use crate::type_names::TypeNames;
-use jav_index::Spelling;
+use jav_names::Spelling;
 use mol_base::{List, OutOfMemory, Text};
 use std::alloc::Global;
 use std::marker::Model;

@@ -1,7 +1,7 @@
 //! What the classes of source files extend.
 ghost use Rattle.std.specs.Prelude.{◌≡◌, ◌<◌, IfOk, Some, map, option_map, length, slice_get};
-ghost use Rattle.jav_view.specs.TypeTexts.{type_in};
-ghost use Rattle.jav_view.specs.UnitViews.{numbered, header_of, superclass_of};
+ghost use Rattle.jav_names.specs.TypeTexts.{type_in};
+ghost use Rattle.jav_names.specs.UnitViews.{numbered, header_of, superclass_of};
 ghost use Rattle.jav_scope.specs.Answers.{superclass_answered};
 ghost use Rattle.jav_scope.specs.Entries.{units_of, classes_in};
 ghost use Rattle.jav_scope.specs.declared.source.SourceUnit.{SourceUnit};

@@ -1,9 +1,9 @@
 //! What the names of types read as.
 ghost use Rattle.std.specs.Prelude.{◌≡◌, ◌<◌, IfOk, Some, option_map, option_copied, length, slice_get};
-ghost use Rattle.jav_view.specs.DottedNames.{Name, cut};
-ghost use Rattle.jav_view.specs.LookUps.{class_named, class_or_imported, class_or_written, import_of, simple_type, type_named};
-ghost use Rattle.jav_view.specs.UnitViews.{header_of};
-ghost use Rattle.jav_index.specs.Spelled.{spelled};
+ghost use Rattle.jav_names.specs.DottedNames.{Name, cut};
+ghost use Rattle.jav_names.specs.LookUps.{class_named, class_or_imported, class_or_written, import_of, simple_type, type_named};
+ghost use Rattle.jav_names.specs.UnitViews.{header_of};
+ghost use Rattle.jav_names.specs.index.Spelled.{spelled};
 ghost use Rattle.jav_scope.specs.Answers.{reading_of, reading_answered, type_answered};
 ghost use Rattle.jav_scope.specs.Entries.{classes_in};
 ghost use Rattle.jav_scope.specs.declared.source.SourceUnit.{SourceUnit};
@@ -12,7 +12,8 @@ use crate::entries::{full_names, imported_names};
 use crate::found::Found;
 use crate::reading::Reading;
 use crate::source::SourceUnit;
-use jav_index::{Index, Spelling};
+use jav_names::Spelling;
+use jav_names::index::Index;
 use mol_base::{OutOfMemory, Text};
 use std::alloc::Global;
 use std::marker::Model;

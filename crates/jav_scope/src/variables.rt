@@ -1,8 +1,8 @@
 //! The look-ups of variables, and of what stands before a dot.
 ghost use Rattle.std.specs.Prelude.{◌≡◌, ◌<◌, ◌≤◌, ◌^◌, ◌∷◌, Some, length, slice_get};
-ghost use Rattle.jav_view.specs.DottedNames.{Name, Names};
-ghost use Rattle.jav_view.specs.LookUps.{variable, leftmost};
-ghost use Rattle.jav_view.specs.UnitViews.{place_in};
+ghost use Rattle.jav_names.specs.DottedNames.{Name, Names};
+ghost use Rattle.jav_names.specs.LookUps.{variable, leftmost};
+ghost use Rattle.jav_names.specs.UnitViews.{place_in};
 ghost use Rattle.jav_scope.specs.Answers.{answered, variable_ref, leftmost_answered};
 ghost use Rattle.jav_scope.specs.Entries.{view_in};
 ghost use Rattle.jav_scope.specs.declared.source.SourceUnit.{SourceUnit};

@@ -1,3 +1,4 @@
+pub mod Added
 pub mod Allowed
 pub mod BadCharacters
 pub mod Comments
@@ -15,6 +16,7 @@ pub mod Keywords
 pub mod LexicalExamples
 pub mod LineCounts
 pub mod Longest
+pub mod Mapped
 pub mod Members
 pub mod NameFlaws
 pub mod Naming

@@ -1,4 +1,5 @@
 pub mod Among
+pub mod Files
 pub mod Identity
 pub mod Lexical
 pub mod Limits

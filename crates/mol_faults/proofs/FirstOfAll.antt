@@ -5,9 +5,9 @@ use Rattle.std.specs.Option.{option_to_list}
 use Rattle.std.proofs.lemmas.List.Elements.{All-contains}
 use Rattle.std.proofs.lemmas.Map.Views.{All-after_first}
 use Rattle.std.specs.declared.cmp.Ordering.TheVariants.{Less}
-use Rattle.jav_view.proofs.Lists.{stands_first, stands_where}
-use Rattle.mol_spelling.proofs.FaultsOrdered.{faults_determined}
-use Rattle.mol_spelling.specs.FaultList.{Fault, fault_cmp, AreFaults}
+use Rattle.jav_names.proofs.Lists.{stands_first, stands_where}
+use Rattle.mol_spell_rules.proofs.FaultsOrdered.{faults_determined}
+use Rattle.mol_spell_rules.specs.FaultList.{Fault, fault_cmp, AreFaults}
 use Rattle.mol_table.specs.Program.{Program}
 use Rattle.mol_faults.specs.First.{IsFirst, first_of}
 

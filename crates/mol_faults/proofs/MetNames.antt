@@ -2,23 +2,23 @@
 use Rattle.std.proofs.Common.{◌≡◌, ◌≢◌, ◌↔◌, ◌⊎◌, inl, inr, ℕ, Bool, true, false, if◌then◌else◌, List, [], ◌∷◌, map, Option, None, Some, Contains, IsTrue, refl, sym, ap, ◌∙◌, subst}
 use Rattle.std.specs.List.{flat_map}
 use Rattle.std.specs.Option.{option_and_then, option_to_list}
-use Rattle.jav_view.proofs.Lists.{stands_first, stands_nowhere, stands_where}
+use Rattle.jav_names.proofs.Lists.{stands_first, stands_nowhere, stands_where}
 use Rattle.mol_base.specs.declared.ident.Id.{Id}
-use Rattle.mol_misread_faults.specs.Readings.{program_target}
-use Rattle.mol_fault.specs.Kept.{kept_fault}
-use Rattle.mol_fault.specs.declared.fault.Fault.{Fault}
-use Rattle.mol_fault.specs.declared.fault.Fault.TheVariants as faults
-use Rattle.mol_fault.specs.declared.target.Target.{Target as KeptTarget}
+use Rattle.mol_faults_misread.specs.body_misreads.Readings.{program_target}
+use Rattle.mol_faults_rules.specs.Kept.{kept_fault}
+use Rattle.mol_faults_rules.specs.declared.fault.Fault.{Fault}
+use Rattle.mol_faults_rules.specs.declared.fault.Fault.TheVariants as faults
+use Rattle.mol_faults_rules.specs.declared.target.Target.{Target as KeptTarget}
 use Rattle.mol_faults.specs.Met.{met_among, met_by, met_in}
-use Rattle.mol_misread_faults.proofs.NamesTold.{Is, name-own, name-same}
-use Rattle.mol_misread_faults.specs.Found.{Found, IsMisread, is_name}
-use Rattle.mol_references.specs.References.{Target}
-use Rattle.mol_spell.proofs.Stands.{behind, from_each, in_each, in_either, in_front}
-use Rattle.mol_spelling.specs.FaultList.{FaultTarget, fault_target, misread}
-use Rattle.mol_spelling.specs.NameFaults.{unit_reader, MisreadIn}
-use Rattle.mol_spelling.specs.ReadInstead.{instead}
-use Rattle.mol_spelling.specs.Support.{IsMetBy, is_recorded, read_instead}
-use Rattle.mol_support.specs.Met.{HasMet, is_of_program}
+use Rattle.mol_faults_misread.proofs.misread_faults_lemmas.NamesTold.{Is, name-own, name-same}
+use Rattle.mol_faults_misread.specs.misread_faults.Found.{Found, IsMisread, is_name}
+use Rattle.mol_spell_rules.specs.references.References.{Target}
+use Rattle.mol_resolve_rules.proofs.Stands.{behind, from_each, in_each, in_either, in_front}
+use Rattle.mol_spell_rules.specs.FaultList.{FaultTarget, fault_target, misread}
+use Rattle.mol_spell_rules.specs.NameFaults.{unit_reader, MisreadIn}
+use Rattle.mol_spell_rules.specs.ReadInstead.{instead}
+use Rattle.mol_spell_rules.specs.Support.{IsMetBy, is_recorded, read_instead}
+use Rattle.mol_faults_support.specs.Met.{HasMet, is_of_program}
 use Rattle.mol_table.specs.Program.{Program}
 use Rattle.mol_table.specs.Tidy.{tidy}
 use Rattle.mol_values.specs.declared.cell.Cell.{Cell}

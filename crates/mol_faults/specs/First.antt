@@ -1,8 +1,8 @@
 -- The first fault of a program.
 use Rattle.std.specs.Prelude.{◌≡◌, ◌⊎◌, List, [], ◌∷◌, Option, None, Some}
 use Rattle.std.specs.declared.cmp.Ordering.TheVariants.{Less}
-use Rattle.mol_spelling.specs.Clean.{Clean}
-use Rattle.mol_spelling.specs.FaultList.{Fault, IsFault, fault_cmp}
+use Rattle.mol_spell_rules.specs.Clean.{Clean}
+use Rattle.mol_spell_rules.specs.FaultList.{Fault, IsFault, fault_cmp}
 use Rattle.mol_table.specs.Program.{Program}
 
 abbrev pub first_of : {X : Type 0} → List X → Option X

@@ -2,10 +2,10 @@
 use Rattle.std.specs.Prelude.{ℕ, List, [], ◌++◌, if◌then◌else◌}
 use Rattle.std.specs.List.{flat_map}
 use Rattle.std.specs.Option.{option_to_list}
-use Rattle.mol_misread_faults.specs.Found.{Found, is_name}
-use Rattle.mol_misread_faults.specs.Noted.{Misreading}
-use Rattle.mol_references.specs.References.{Target}
-use Rattle.mol_spelling.specs.FaultList.{FaultTarget}
+use Rattle.mol_faults_misread.specs.misread_faults.Found.{Found, is_name}
+use Rattle.mol_faults_misread.specs.body_misreads.Noted.{Misreading}
+use Rattle.mol_spell_rules.specs.references.References.{Target}
+use Rattle.mol_spell_rules.specs.FaultList.{FaultTarget}
 use Rattle.mol_values.specs.declared.cell.Cell.{Cell}
 
 -- what of the program it is the name of, and what it reads as instead

@@ -1,19 +1,15 @@
 //! All faults of a program.
 ghost use Rattle.std.specs.Prelude.{◌≡◌, ◌++◌, [], IfOk, OnOk, map};
-ghost use Rattle.mol_fault.specs.Kept.{kept_fault};
-ghost use Rattle.mol_spelling.specs.FaultList.{AreFaults};
+ghost use Rattle.mol_faults_rules.specs.Kept.{kept_fault};
+ghost use Rattle.mol_spell_rules.specs.FaultList.{AreFaults};
 ghost use Rattle.mol_table.specs.Tidy.{tidy};
 
 use mol_base::{List, OutOfMemory};
-use mol_fault::Fault;
-use mol_local_faults::local_clash;
-use mol_method_faults::{apart, outside_name};
-use mol_misread_faults::misread;
-use mol_missing_faults::missing;
-use mol_override_faults::false_override;
-use mol_package_faults::package_is_class;
-use mol_pair_faults::same_address;
-use mol_program_index::ProgramIndex;
+use mol_faults_entities::{apart, false_override, outside_name, package_is_class, same_address};
+use mol_faults_misread::misread;
+use mol_faults_rules::Fault;
+use mol_faults_values::{local_clash, missing};
+use mol_spell_names::ProgramIndex;
 use mol_table::Table;
 use std::alloc::Global;
 

@@ -1,13 +1,13 @@
 //! The first fault of a program.
 ghost use Rattle.std.specs.Prelude.{◌≡◌, IfOk, map, option_map};
-ghost use Rattle.mol_fault.specs.Kept.{kept_fault};
+ghost use Rattle.mol_faults_rules.specs.Kept.{kept_fault};
 ghost use Rattle.mol_faults.specs.First.{IsFirst, first_of};
 ghost use Rattle.mol_table.specs.Tidy.{tidy};
 
 use crate::all::{all_of, faults};
 use mol_base::OutOfMemory;
-use mol_fault::Fault;
-use mol_program_index::ProgramIndex;
+use mol_faults_rules::Fault;
+use mol_spell_names::ProgramIndex;
 use mol_table::Table;
 use std::alloc::Global;
 

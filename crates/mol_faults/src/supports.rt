@@ -1,20 +1,21 @@
 //! The support of a fault.
 ghost use Rattle.std.specs.Prelude.{◌≡◌, ◌++◌, ◌↔◌, Contains, IfOk, OnOk, map};
 ghost use Rattle.std.specs.Option.{option_to_list};
-ghost use Rattle.mol_misread_faults.specs.Kept.{kept_misread};
-ghost use Rattle.mol_fault.specs.Kept.{kept_fault, kept_target};
+ghost use Rattle.mol_faults_misread.specs.body_misreads.Kept.{kept_misread};
+ghost use Rattle.mol_faults_rules.specs.Kept.{kept_fault, kept_target};
 ghost use Rattle.mol_faults.specs.Met.{met_among, met_by, met_in};
-ghost use Rattle.mol_misread_faults.specs.Found.{Found, IsMisread, kept_name};
-ghost use Rattle.mol_spelling.specs.FaultList.{misread};
-ghost use Rattle.mol_spelling.specs.Support.{IsSupport};
-ghost use Rattle.mol_support.specs.Met.{kept_met, HasMet};
+ghost use Rattle.mol_faults_misread.specs.misread_faults.Found.{Found, IsMisread, kept_name};
+ghost use Rattle.mol_spell_rules.specs.FaultList.{misread};
+ghost use Rattle.mol_spell_rules.specs.Support.{IsSupport};
+ghost use Rattle.mol_faults_support.specs.Met.{kept_met, HasMet};
 
 use mol_base::{List, OutOfMemory};
-use mol_fault::{Fault, Target};
-use mol_misread_faults::{Misread, MisreadName, misread_names};
-use mol_program_index::ProgramIndex;
-use mol_support::{Met, support as support_by};
-use mol_table::{Cell, Table};
+use mol_faults_misread::{Misread, MisreadName, misread_names};
+use mol_faults_rules::{Fault, Target};
+use mol_faults_support::{Met, support as support_by};
+use mol_spell_names::ProgramIndex;
+use mol_table::Table;
+use mol_values::Cell;
 use std::alloc::Global;
 
 /// The cells that a fault of a program rests on, ascending: what its condition looks at first, so that the operations that last wrote them

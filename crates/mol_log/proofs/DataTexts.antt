@@ -10,7 +10,7 @@ use Rattle.json.proofs.Printed.Strings.{escape_byte_plain}
 use Rattle.serde_json.specs.Data.{Data, null, string, number, unsigned, array, depth, items_depth, members_depth}
 use Rattle.serde_json.specs.Written.{compact_text, items_text, members_text, comma_if, has_float, items_have_float, members_have_float}
 use Rattle.mol_base.proofs.Tags.{both_true}
-use Rattle.mol_lines.specs.Objects.{Pair, members, object_of, items, text_items, texts_data, maybe_texts}
+use Rattle.mol_log_rows.specs.lines.Objects.{Pair, members, object_of, items, text_items, texts_data, maybe_texts}
 
 -- ---- bytes that end no line
 

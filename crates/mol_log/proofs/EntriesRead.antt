@@ -2,12 +2,12 @@
 use Rattle.std.proofs.Common.{◌≡◌, ◌≢◌, ℕ, suc, ◌+◌, ◌<◌, List, [], ◌∷◌, ◌++◌, length, Option, None, Some, sym, ap, ◌∙◌, subst, arith}
 use Rattle.std.proofs.Common.{append_assoc, append-nil}
 use Rattle.mol_base.specs.declared.ident.Stamp.{Stamp}
-use Rattle.mol_lines.specs.Lines.{Line, lines_left}
-use Rattle.mol_lines.specs.declared.fault.LogFault.{LogFault}
-use Rattle.mol_lines.specs.declared.fault.LogFault.TheVariants.{OutOfMemory}
-use Rattle.mol_rows.specs.NextRow.{StandsOn}
-use Rattle.mol_rows.specs.declared.rows.Rows.{Rows}
-use Rattle.mol_entries.specs.declared.entry.Entry.{Entry}
+use Rattle.mol_log_rows.specs.lines.Lines.{Line, lines_left}
+use Rattle.mol_log_rows.specs.declared.lines.fault.LogFault.{LogFault}
+use Rattle.mol_log_rows.specs.declared.lines.fault.LogFault.TheVariants.{OutOfMemory}
+use Rattle.mol_log_rows.specs.rows.NextRow.{StandsOn}
+use Rattle.mol_log_rows.specs.declared.rows.rows.Rows.{Rows}
+use Rattle.mol_log.specs.declared.entries.entry.Entry.{Entry}
 use Rattle.mol_log.specs.LogLines.{SayEntries, HaveFault, no_lines, more_lines, later}
 use Rattle.mol_log.specs.NextEntry.{Stands, TakesEntry, IsNextEntry}
 

@@ -6,8 +6,8 @@ use Rattle.std.proofs.lemmas.Bool.Decides.{nat_tests}
 use Rattle.std.proofs.Common.{append_assoc, append-nil}
 use Rattle.std.proofs.lemmas.List.{take_more, take_all, get_or_past}
 use Rattle.serde_json.specs.Data.{Data}
-use Rattle.mol_lines.specs.Headers.{IsDigest}
-use Rattle.mol_entries.specs.declared.entry.Entry.{Entry}
+use Rattle.mol_log_rows.specs.lines.Headers.{IsDigest}
+use Rattle.mol_log.specs.declared.entries.entry.Entry.{Entry}
 use Rattle.mol_log.proofs.WrittenLogs.{AreReadBack, text_of}
 use Rattle.mol_log.specs.Written.{IsReadBack, line_text, entry_data, entry_text}
 

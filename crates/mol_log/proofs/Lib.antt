@@ -10,3 +10,4 @@ pub mod ParamItems
 pub mod ReadBack
 pub mod RowTexts
 pub mod WrittenLogs
+pub mod entries_lemmas

@@ -4,9 +4,9 @@ use Rattle.std.proofs.Common.{◌≡◌, ◌≢◌, ◌⊎◌, inl, inr, ℕ, Li
 use Rattle.std.proofs.Math.Logic.{∥∥₁_elim}
 use Rattle.std.specs.Coded.{Coded-set}
 use Rattle.std.specs.Prelude.{IfOk, IfErr, MatchResult}
-use Rattle.mol_lines.specs.declared.fault.LogFault.{LogFault}
-use Rattle.mol_lines.specs.declared.fault.LogFault.TheVariants.{OutOfMemory, TooLong, BadHeader, Torn, NotUtf8, NotJson, BadOp, BadStamp}
-use Rattle.mol_lines.specs.declared.fault.LogFault.TheVariants.{BadBody}
+use Rattle.mol_log_rows.specs.declared.lines.fault.LogFault.{LogFault}
+use Rattle.mol_log_rows.specs.declared.lines.fault.LogFault.TheVariants.{OutOfMemory, TooLong, BadHeader, Torn, NotUtf8, NotJson, BadOp, BadStamp}
+use Rattle.mol_log_rows.specs.declared.lines.fault.LogFault.TheVariants.{BadBody}
 use Rattle.mol_log.proofs.LogLaws.{one_log, one_fault, no_fault}
 use Rattle.mol_log.specs.Form.{IsLogText, IsLogFault}
 use Rattle.mol_log.specs.Reading.{IsLogRead}

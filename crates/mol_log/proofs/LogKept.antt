@@ -10,12 +10,12 @@ use Rattle.serde_json.specs.Read.{read}
 use Rattle.mol_base.proofs.Spelled.{is_tag-to}
 use Rattle.mol_base.specs.Tag.{IsTag}
 use Rattle.mol_base.specs.declared.ident.Stamp.{Stamp}
-use Rattle.mol_lines.specs.Lines.{Line, is_end, last_line, lines_from, lines_of, line_data, or_fault}
-use Rattle.mol_lines.specs.Stamps.{may_follow}
-use Rattle.mol_lines.specs.declared.fault.LogFault.TheVariants.{Torn, NotUtf8, NotJson}
-use Rattle.mol_entries.specs.declared.entry.Entry.{Entry}
-use Rattle.mol_rows.specs.FirstLine.{SaysFirst}
-use Rattle.mol_lines.specs.declared.header.Header.{Header}
+use Rattle.mol_log_rows.specs.lines.Lines.{Line, is_end, last_line, lines_from, lines_of, line_data, or_fault}
+use Rattle.mol_log_rows.specs.lines.Stamps.{may_follow}
+use Rattle.mol_log_rows.specs.declared.lines.fault.LogFault.TheVariants.{Torn, NotUtf8, NotJson}
+use Rattle.mol_log.specs.declared.entries.entry.Entry.{Entry}
+use Rattle.mol_log_rows.specs.rows.FirstLine.{SaysFirst}
+use Rattle.mol_log_rows.specs.declared.lines.header.Header.{Header}
 use Rattle.mol_log.specs.LogForms.{Follow, IsLog}
 use Rattle.mol_log.specs.LogLines.{SayEntries, no_lines, more_lines}
 

@@ -4,28 +4,28 @@ use Rattle.std.proofs.Math.Logic.{∥∥₁_prop}
 use Rattle.std.proofs.Common.{◌≡◌, ℕ, suc, List, [], ◌∷◌, true, false, Ok, Some, sym, ap, ◌∙◌, subst, refl, arith}
 use Rattle.serde_json.specs.Data.{Data}
 use Rattle.mol_base.specs.declared.ident.Stamp.{Stamp}
-use Rattle.mol_lines.specs.Headers.{IsHeader}
-use Rattle.mol_lines.specs.Lines as sizes
-use Rattle.mol_lines.specs.Lines.{Line, IsShort, IsSizeFault, lines_of, line_data}
-use Rattle.mol_lines.specs.Stamps.{may_follow}
-use Rattle.mol_lines.specs.declared.fault.LogFault.{LogFault}
-use Rattle.mol_lines.specs.declared.fault.LogFault.TheVariants.{BadBody}
-use Rattle.mol_lines.specs.declared.header.Header.{Header}
-use Rattle.mol_lines.proofs.HeaderLaws.{header_read}
-use Rattle.mol_rows.specs.FirstLine as start
-use Rattle.mol_rows.specs.FirstLine.{SaysHeader, IsHeaderFault, SaysFirst, IsFirstFault}
-use Rattle.mol_rows.specs.RowData.{IsRow}
-use Rattle.mol_rows.specs.RowLine as next
-use Rattle.mol_rows.specs.RowLine.{SaysRow, IsRowFault, SaysNext, IsNextFault}
-use Rattle.mol_rows.specs.RowReader.{recorded_of}
-use Rattle.mol_rows.specs.declared.row.Recorded.{Recorded}
-use Rattle.mol_rows.specs.declared.row.Row.{Row}
-use Rattle.mol_rows.proofs.RowsRead.{recorded_read}
-use Rattle.mol_entries.proofs.GoodParts.{clash, one_bad}
-use Rattle.mol_entries.proofs.OneEntry.{one_entry as same_entry}
-use Rattle.mol_entries.specs.Entries.{SpellsEntry}
-use Rattle.mol_entries.specs.Trees.{Bad}
-use Rattle.mol_entries.specs.declared.entry.Entry.{Entry}
+use Rattle.mol_log_rows.specs.lines.Headers.{IsHeader}
+use Rattle.mol_log_rows.specs.lines.Lines as sizes
+use Rattle.mol_log_rows.specs.lines.Lines.{Line, IsShort, IsSizeFault, lines_of, line_data}
+use Rattle.mol_log_rows.specs.lines.Stamps.{may_follow}
+use Rattle.mol_log_rows.specs.declared.lines.fault.LogFault.{LogFault}
+use Rattle.mol_log_rows.specs.declared.lines.fault.LogFault.TheVariants.{BadBody}
+use Rattle.mol_log_rows.specs.declared.lines.header.Header.{Header}
+use Rattle.mol_log_rows.proofs.lines_lemmas.HeaderLaws.{header_read}
+use Rattle.mol_log_rows.specs.rows.FirstLine as start
+use Rattle.mol_log_rows.specs.rows.FirstLine.{SaysHeader, IsHeaderFault, SaysFirst, IsFirstFault}
+use Rattle.mol_log_rows.specs.rows.RowData.{IsRow}
+use Rattle.mol_log_rows.specs.rows.RowLine as next
+use Rattle.mol_log_rows.specs.rows.RowLine.{SaysRow, IsRowFault, SaysNext, IsNextFault}
+use Rattle.mol_log_rows.specs.rows.RowReader.{recorded_of}
+use Rattle.mol_log_rows.specs.declared.rows.row.Recorded.{Recorded}
+use Rattle.mol_log_rows.specs.declared.rows.row.Row.{Row}
+use Rattle.mol_log_rows.proofs.rows_lemmas.RowsRead.{recorded_read}
+use Rattle.mol_log.proofs.entries_lemmas.GoodParts.{clash, one_bad}
+use Rattle.mol_log.proofs.entries_lemmas.OneEntry.{one_entry as same_entry}
+use Rattle.mol_log.specs.entries.Entries.{SpellsEntry}
+use Rattle.mol_log.specs.entries.Trees.{Bad}
+use Rattle.mol_log.specs.declared.entries.entry.Entry.{Entry}
 use Rattle.mol_log.specs.Form.{IsLogText, IsLogFault, no_start, no_entry, header_of}
 use Rattle.mol_log.specs.LogForms.{IsLog}
 use Rattle.mol_log.specs.LogLines as log_lines

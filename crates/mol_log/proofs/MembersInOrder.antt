@@ -3,11 +3,11 @@ use Rattle.std.proofs.Common.{◌≡◌, ℕ, List, ◌∷◌, Result, Ok, Err, 
 use Rattle.std.specs.Prelude.{OnOk}
 use Rattle.serde_json.specs.Data.{Data, Members, member, no_members, put}
 use Rattle.serde_json.proofs.OnLiterals.{serde_json_on_literals}
-use Rattle.mol_lines.specs.Objects.{members}
-use Rattle.mol_rows.specs.RowData.{row_pairs}
-use Rattle.mol_rows.specs.declared.row.Row.{Row}
-use Rattle.mol_rows.specs.declared.row.Row.TheVariants.{AddClass, AddField, AddMethod, AddOverride, AddConstructor, Delete, SetBody}
-use Rattle.mol_rows.specs.declared.row.Row.TheVariants.{SetValue, RenameClass, RenameMethod, MoveClass, MoveMethod, ChangeSignature}
+use Rattle.mol_log_rows.specs.lines.Objects.{members}
+use Rattle.mol_log_rows.specs.rows.RowData.{row_pairs}
+use Rattle.mol_log_rows.specs.declared.rows.row.Row.{Row}
+use Rattle.mol_log_rows.specs.declared.rows.row.Row.TheVariants.{AddClass, AddField, AddMethod, AddOverride, AddConstructor, Delete, SetBody}
+use Rattle.mol_log_rows.specs.declared.rows.row.Row.TheVariants.{SetValue, RenameClass, RenameMethod, MoveClass, MoveMethod, ChangeSignature}
 use Rattle.mol_log.specs.Members.{put_pairs}
 
 -- after the stamp

@@ -1,15 +1,15 @@
 -- What the next line of a log says as an entry.
 use Rattle.std.proofs.Common.{◌≡◌, ◌≢◌, ℕ, ◌+◌, List, [], ◌∷◌, Option, None, Some, Ok, sym, ap, ◌∙◌, subst}
 use Rattle.mol_base.specs.declared.ident.Stamp.{Stamp}
-use Rattle.mol_lines.specs.Lines.{Line}
-use Rattle.mol_lines.specs.declared.fault.LogFault.{LogFault}
-use Rattle.mol_lines.specs.declared.fault.LogFault.TheVariants.{OutOfMemory, BadBody}
-use Rattle.mol_rows.specs.NextRow.{StandsOn, Takes, Passes, IsNext}
-use Rattle.mol_rows.specs.declared.row.Recorded.{Recorded}
-use Rattle.mol_rows.specs.declared.rows.Rows.{Rows}
-use Rattle.mol_entries.specs.Entries.{SpellsEntry}
-use Rattle.mol_entries.specs.Trees.{Bad}
-use Rattle.mol_entries.specs.declared.entry.Entry.{Entry}
+use Rattle.mol_log_rows.specs.lines.Lines.{Line}
+use Rattle.mol_log_rows.specs.declared.lines.fault.LogFault.{LogFault}
+use Rattle.mol_log_rows.specs.declared.lines.fault.LogFault.TheVariants.{OutOfMemory, BadBody}
+use Rattle.mol_log_rows.specs.rows.NextRow.{StandsOn, Takes, Passes, IsNext}
+use Rattle.mol_log_rows.specs.declared.rows.row.Recorded.{Recorded}
+use Rattle.mol_log_rows.specs.declared.rows.rows.Rows.{Rows}
+use Rattle.mol_log.specs.entries.Entries.{SpellsEntry}
+use Rattle.mol_log.specs.entries.Trees.{Bad}
+use Rattle.mol_log.specs.declared.entries.entry.Entry.{Entry}
 use Rattle.mol_log.specs.LogLines.{HaveFault, no_row, no_trees, here}
 use Rattle.mol_log.specs.NextEntry.{TakesEntry}
 

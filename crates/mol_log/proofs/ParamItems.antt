@@ -4,9 +4,9 @@ use Rattle.std.proofs.lemmas.List.{take_more}
 use Rattle.serde_json.specs.Data.{Data, Items, item, no_items}
 use Rattle.serde_json.specs.View.{view, items_view}
 use Rattle.serde_json.specs.declared.value.Value.{Value}
-use Rattle.mol_entries.specs.RowsOf.{param_row, param_rows}
-use Rattle.mol_lines.specs.Objects.{items}
-use Rattle.mol_rows.specs.RowData.{param_data}
+use Rattle.mol_log.specs.entries.RowsOf.{param_row, param_rows}
+use Rattle.mol_log_rows.specs.lines.Objects.{items}
+use Rattle.mol_log_rows.specs.rows.RowData.{param_data}
 use Rattle.mol_values.specs.declared.param.Param.{Param}
 
 -- the objects of parameters as items

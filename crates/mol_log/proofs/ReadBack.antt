@@ -8,8 +8,8 @@ use Rattle.std.specs.Str.{is_utf8}
 use Rattle.serde_json.specs.Data.{Data}
 use Rattle.serde_json.specs.Read.{read}
 use Rattle.serde_json.specs.Written.{compact_text}
-use Rattle.mol_lines.specs.Lines.{ended, line_data, or_fault}
-use Rattle.mol_lines.specs.declared.fault.LogFault.TheVariants.{NotUtf8, NotJson}
+use Rattle.mol_log_rows.specs.lines.Lines.{ended, line_data, or_fault}
+use Rattle.mol_log_rows.specs.declared.lines.fault.LogFault.TheVariants.{NotUtf8, NotJson}
 
 pub read-back : (bytes : List ℕ) (d : Data) (number : ℕ) → ∥ IsUtf8 bytes ∥₁ → bytes ≡ compact_text d → read bytes ≡ Some d
     → line_data number (ended (compact_text d)) ≡ Ok d

@@ -5,14 +5,14 @@ use Rattle.serde_json.specs.Data.{string, number, unsigned}
 use Rattle.mol_base.specs.Identity.{spelled_id, spelled_stamp}
 use Rattle.mol_base.specs.declared.ident.Id.{Id}
 use Rattle.mol_base.specs.declared.ident.Stamp.{Stamp}
-use Rattle.mol_lines.specs.Headers.{header_data}
-use Rattle.mol_lines.specs.Objects.{Pair, texts_data}
-use Rattle.mol_lines.specs.declared.header.Header.{Header}
-use Rattle.mol_rows.specs.RowData.{id_data, kind_data, class_notes, param_data, params_data, row_pairs, row_data}
-use Rattle.mol_rows.specs.declared.row.ParamRow.{ParamRow}
-use Rattle.mol_rows.specs.declared.row.Row.{Row}
-use Rattle.mol_rows.specs.declared.row.Row.TheVariants.{AddClass, AddField, AddMethod, AddOverride, AddConstructor, Delete, SetBody}
-use Rattle.mol_rows.specs.declared.row.Row.TheVariants.{SetValue, RenameClass, RenameMethod, MoveClass, MoveMethod, ChangeSignature}
+use Rattle.mol_log_rows.specs.lines.Headers.{header_data}
+use Rattle.mol_log_rows.specs.lines.Objects.{Pair, texts_data}
+use Rattle.mol_log_rows.specs.declared.lines.header.Header.{Header}
+use Rattle.mol_log_rows.specs.rows.RowData.{id_data, kind_data, class_notes, param_data, params_data, row_pairs, row_data}
+use Rattle.mol_log_rows.specs.declared.rows.row.ParamRow.{ParamRow}
+use Rattle.mol_log_rows.specs.declared.rows.row.Row.{Row}
+use Rattle.mol_log_rows.specs.declared.rows.row.Row.TheVariants.{AddClass, AddField, AddMethod, AddOverride, AddConstructor, Delete, SetBody}
+use Rattle.mol_log_rows.specs.declared.rows.row.Row.TheVariants.{SetValue, RenameClass, RenameMethod, MoveClass, MoveMethod, ChangeSignature}
 use Rattle.mol_values.specs.declared.kind.MethodKind.{MethodKind}
 use Rattle.mol_values.specs.declared.kind.MethodKind.TheVariants.{Instance, Static, Constructor}
 use Rattle.mol_values.specs.declared.words.Notes.{Notes}

@@ -11,11 +11,11 @@ use Rattle.mol_base.proofs.Tags.{both_true}
 use Rattle.mol_base.specs.Limits.{most}
 use Rattle.mol_base.specs.declared.ident.Stamp.{Stamp}
 use Rattle.mol_base.specs.declared.limit.Which.TheVariants.{LogBytes}
-use Rattle.mol_lines.specs.Headers.{IsDigest, header_data}
-use Rattle.mol_lines.specs.Lines.{Line, IsShort, ended, is_end, lines_from, lines_of}
-use Rattle.mol_entries.specs.Entries.{recorded_of}
-use Rattle.mol_entries.specs.EntryForms.{IsEntry}
-use Rattle.mol_entries.specs.declared.entry.Entry.{Entry}
+use Rattle.mol_log_rows.specs.lines.Headers.{IsDigest, header_data}
+use Rattle.mol_log_rows.specs.lines.Lines.{Line, IsShort, ended, is_end, lines_from, lines_of}
+use Rattle.mol_log.specs.entries.Entries.{recorded_of}
+use Rattle.mol_log.specs.entries.EntryForms.{IsEntry}
+use Rattle.mol_log.specs.declared.entries.entry.Entry.{Entry}
 use Rattle.mol_log.proofs.DataTexts.{is_inner, is_line}
 use Rattle.mol_log.proofs.RowTexts.{header-line, row-line}
 use Rattle.mol_log.specs.Form.{IsLogText, header_of}

@@ -1,9 +1,9 @@
 -- The form of a log: which log bytes spell, and the first fault of bytes that spell none.
 use Rattle.std.specs.Prelude.{ℕ, List, []}
-use Rattle.mol_lines.specs.Lines.{Line}
-use Rattle.mol_lines.specs.declared.fault.LogFault.{LogFault}
-use Rattle.mol_lines.specs.declared.header.Header.{Header}
-use Rattle.mol_rows.specs.FirstLine.{SaysFirst, IsFirstFault}
+use Rattle.mol_log_rows.specs.lines.Lines.{Line}
+use Rattle.mol_log_rows.specs.declared.lines.fault.LogFault.{LogFault}
+use Rattle.mol_log_rows.specs.declared.lines.header.Header.{Header}
+use Rattle.mol_log_rows.specs.rows.FirstLine.{SaysFirst, IsFirstFault}
 use Rattle.mol_log.specs.LogLines.{SayEntries, HaveFault}
 use Rattle.mol_log.specs.declared.log.Log.{Log}
 

@@ -5,3 +5,4 @@ pub mod Members
 pub mod NextEntry
 pub mod Reading
 pub mod Written
+pub mod entries

@@ -3,9 +3,9 @@ use Rattle.std.specs.Prelude.{◌≡◌, ◌≤◌, ℕ, true, List, [], ◌∷�
 use Rattle.mol_base.specs.Limits.{most}
 use Rattle.mol_base.specs.declared.ident.Stamp.{Stamp}
 use Rattle.mol_base.specs.declared.limit.Which.TheVariants.{Operations}
-use Rattle.mol_lines.specs.Headers.{are_tags}
-use Rattle.mol_lines.specs.Stamps.{may_follow}
-use Rattle.mol_entries.specs.declared.entry.Entry.{Entry}
+use Rattle.mol_log_rows.specs.lines.Headers.{are_tags}
+use Rattle.mol_log_rows.specs.lines.Stamps.{may_follow}
+use Rattle.mol_log.specs.declared.entries.entry.Entry.{Entry}
 
 -- each entry may follow those before it: its tag is listed, and its number is greater than the last one of that tag
 abbrev pub Follow : List (List ℕ) → List Stamp → List Entry → Type 0

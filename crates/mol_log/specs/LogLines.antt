@@ -1,14 +1,14 @@
 -- The lines of a log after the first, as the entries that they say, and the first fault of lines that say none.
 use Rattle.std.specs.Prelude.{ℕ, suc, List, [], ◌∷◌}
 use Rattle.mol_base.specs.declared.ident.Stamp.{Stamp}
-use Rattle.mol_lines.specs.Lines.{Line}
-use Rattle.mol_lines.specs.declared.fault.LogFault.{LogFault}
-use Rattle.mol_lines.specs.declared.fault.LogFault.TheVariants.{BadBody}
-use Rattle.mol_rows.specs.RowLine.{SaysNext, IsNextFault}
-use Rattle.mol_rows.specs.declared.row.Recorded.{Recorded}
-use Rattle.mol_entries.specs.Entries.{SpellsEntry}
-use Rattle.mol_entries.specs.Trees.{Bad}
-use Rattle.mol_entries.specs.declared.entry.Entry.{Entry}
+use Rattle.mol_log_rows.specs.lines.Lines.{Line}
+use Rattle.mol_log_rows.specs.declared.lines.fault.LogFault.{LogFault}
+use Rattle.mol_log_rows.specs.declared.lines.fault.LogFault.TheVariants.{BadBody}
+use Rattle.mol_log_rows.specs.rows.RowLine.{SaysNext, IsNextFault}
+use Rattle.mol_log_rows.specs.declared.rows.row.Recorded.{Recorded}
+use Rattle.mol_log.specs.entries.Entries.{SpellsEntry}
+use Rattle.mol_log.specs.entries.Trees.{Bad}
+use Rattle.mol_log.specs.declared.entries.entry.Entry.{Entry}
 
 -- # One line, after entries with these stamps, the latest one first
 

@@ -2,7 +2,7 @@
 use Rattle.std.specs.Prelude.{List, [], ◌∷◌, codes}
 use Rattle.serde_json.specs.Data.{Members, put}
 use Rattle.serde_json.specs.View.{members_view}
-use Rattle.mol_lines.specs.Objects.{Pair}
+use Rattle.mol_log_rows.specs.lines.Objects.{Pair}
 use Rattle.mol_log.specs.declared.object.Object.{Object}
 
 -- the members so far

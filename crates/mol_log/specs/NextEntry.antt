@@ -1,10 +1,10 @@
 -- The lines of a log that are left, read one after the other as entries.
 use Rattle.std.specs.Prelude.{◌≡◌, ℕ, ◌+◌, List, [], ◌∷◌, Option, None, Some}
 use Rattle.mol_base.specs.declared.ident.Stamp.{Stamp}
-use Rattle.mol_lines.specs.Lines.{Line}
-use Rattle.mol_rows.specs.NextRow.{StandsOn}
-use Rattle.mol_rows.specs.declared.rows.Rows.{Rows}
-use Rattle.mol_entries.specs.declared.entry.Entry.{Entry}
+use Rattle.mol_log_rows.specs.lines.Lines.{Line}
+use Rattle.mol_log_rows.specs.rows.NextRow.{StandsOn}
+use Rattle.mol_log_rows.specs.declared.rows.rows.Rows.{Rows}
+use Rattle.mol_log.specs.declared.entries.entry.Entry.{Entry}
 use Rattle.mol_log.specs.LogLines.{SaysEntry}
 
 -- the code stands on some lines, after entries with some stamps

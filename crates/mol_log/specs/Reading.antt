@@ -1,7 +1,7 @@
 -- What the call that reads a log answers.
 use Rattle.std.specs.Prelude.{◌≡◌, ◌≢◌, ◌⊎◌, ℕ, List, Result, Ok, Err, IfOk, IfErr}
-use Rattle.mol_lines.specs.declared.fault.LogFault.{LogFault}
-use Rattle.mol_lines.specs.declared.fault.LogFault.TheVariants.{OutOfMemory}
+use Rattle.mol_log_rows.specs.declared.lines.fault.LogFault.{LogFault}
+use Rattle.mol_log_rows.specs.declared.lines.fault.LogFault.TheVariants.{OutOfMemory}
 use Rattle.mol_log.specs.Form.{IsLogText, IsLogFault}
 use Rattle.mol_log.specs.declared.log.Log.{Log}
 

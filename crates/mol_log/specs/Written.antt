@@ -3,11 +3,11 @@ use Rattle.std.specs.Prelude.{◌≡◌, ℕ, List, [], ◌∷◌, ◌++◌, map
 use Rattle.std.specs.List.{concat}
 use Rattle.serde_json.specs.Data.{Data}
 use Rattle.serde_json.specs.Written.{compact_text}
-use Rattle.mol_lines.specs.Headers.{header_data}
-use Rattle.mol_lines.specs.Lines.{ended, line_data}
-use Rattle.mol_rows.specs.RowData.{row_data}
-use Rattle.mol_entries.specs.RowsOf.{row_of}
-use Rattle.mol_entries.specs.declared.entry.Entry.{Entry}
+use Rattle.mol_log_rows.specs.lines.Headers.{header_data}
+use Rattle.mol_log_rows.specs.lines.Lines.{ended, line_data}
+use Rattle.mol_log_rows.specs.rows.RowData.{row_data}
+use Rattle.mol_log.specs.entries.RowsOf.{row_of}
+use Rattle.mol_log.specs.declared.entries.entry.Entry.{Entry}
 use Rattle.mol_log.specs.Form.{header_of}
 use Rattle.mol_log.specs.declared.log.Log.{Log}
 

@@ -1,6 +1,7 @@
 //! Logs: the recorded operations of a branch or of a merge, and their form as bytes, both ways.
 #![tactic(auto)]
 
+mod entries;
 mod log;
 mod object;
 mod objects;
@@ -8,8 +9,8 @@ mod parts;
 mod reading;
 mod writing;
 
+pub use entries::{Entry, read_entry};
 pub use log::Log;
-pub use mol_entries::Entry;
-pub use mol_lines::LogFault;
+pub use mol_log_rows::LogFault;
 pub use reading::read_log;
 pub use writing::write_log;

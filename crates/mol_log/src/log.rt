@@ -1,8 +1,8 @@
 //! A log as a whole.
 ghost use Rattle.mol_log.specs.LogForms.{IsLog};
 
+use crate::entries::Entry;
 use mol_base::{List, OutOfMemory, Tag};
-use mol_entries::Entry;
 use std::alloc::Global;
 
 /// The operations that were recorded over one base, in their order.

@@ -2,8 +2,8 @@
 ghost use Rattle.std.specs.Prelude.{◌≡◌, IfOk};
 ghost use Rattle.serde_json.specs.Data.{object, no_members, put, string, null};
 ghost use Rattle.serde_json.specs.View.{view};
-ghost use Rattle.mol_lines.specs.Objects.{texts_data};
-ghost use Rattle.mol_rows.specs.RowData.{id_data};
+ghost use Rattle.mol_log_rows.specs.lines.Objects.{texts_data};
+ghost use Rattle.mol_log_rows.specs.rows.RowData.{id_data};
 ghost use Rattle.mol_log.specs.Members.{members_in};
 
 use mol_base::{Id, OutOfMemory, Text};

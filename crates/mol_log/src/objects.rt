@@ -1,12 +1,12 @@
 //! The object of an entry's line, with exactly the keys of its row.
 ghost use Rattle.std.specs.Prelude.{◌≡◌, IfOk, OnOk};
 ghost use Rattle.serde_json.specs.View.{view};
-ghost use Rattle.mol_entries.specs.RowsOf.{row_of};
-ghost use Rattle.mol_rows.specs.RowData.{row_pairs};
+ghost use Rattle.mol_log.specs.entries.RowsOf.{row_of};
+ghost use Rattle.mol_log_rows.specs.rows.RowData.{row_pairs};
 ghost use Rattle.mol_log.specs.Members.{members_in, put_pairs};
 ghost use Rattle.mol_log.specs.Written.{entry_data};
 
-use crate::Entry;
+use crate::entries::Entry;
 use crate::object::Object;
 use mol_base::OutOfMemory;
 use mol_op::{

@@ -2,20 +2,20 @@
 ghost use Rattle.std.specs.Prelude.{◌≡◌, IfOk, OnOk, option_map};
 ghost use Rattle.serde_json.specs.Data.{put, string};
 ghost use Rattle.serde_json.specs.View.{view};
-ghost use Rattle.mol_words.specs.TypeWords.{type_words};
-ghost use Rattle.mol_expr_words.specs.ExpressionWords.{expr_words};
-ghost use Rattle.mol_body_words.specs.BodyWords.{body_words};
-ghost use Rattle.mol_entries.specs.RowsOf.{param_row, param_rows};
-ghost use Rattle.mol_lines.specs.Objects.{texts_data, maybe_texts};
-ghost use Rattle.mol_rows.specs.RowData.{kind_data, param_data, params_data, class_notes as class_notes_of};
+ghost use Rattle.mol_log_words.specs.TypeWords.{type_words};
+ghost use Rattle.mol_log_expr.specs.ExpressionWords.{expr_words};
+ghost use Rattle.mol_log_body.specs.BodyWords.{body_words};
+ghost use Rattle.mol_log.specs.entries.RowsOf.{param_row, param_rows};
+ghost use Rattle.mol_log_rows.specs.lines.Objects.{texts_data, maybe_texts};
+ghost use Rattle.mol_log_rows.specs.rows.RowData.{kind_data, param_data, params_data, class_notes as class_notes_of};
 ghost use Rattle.mol_log.specs.Members.{members_in};
 
 use crate::object::Object;
 use mol_base::OutOfMemory;
-use mol_body_words::write_body;
-use mol_expr_words::write_expr;
+use mol_log_body::write_body;
+use mol_log_expr::write_expr;
+use mol_log_words::write_type;
 use mol_values::{IBody, IExpr, IType, MethodKind, Notes, Param};
-use mol_words::write_type;
 use serde_json::Value;
 use std::alloc::Global;
 

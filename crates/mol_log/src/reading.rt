@@ -2,21 +2,20 @@
 ghost use Rattle.std.specs.Prelude.{◌≡◌, ◌≢◌, true, ℕ, List as Items, [], IfOk, IfErr, MatchResult};
 ghost use Rattle.mol_base.specs.Spelled.{is_stamp};
 ghost use Rattle.mol_base.specs.declared.ident.Stamp.{Stamp};
-ghost use Rattle.mol_entries.specs.Entries.{SpellsEntry};
-ghost use Rattle.mol_entries.specs.Trees.{Bad};
-ghost use Rattle.mol_lines.specs.Lines.{Line, lines_left};
-ghost use Rattle.mol_rows.specs.NextRow.{StandsOn};
-ghost use Rattle.mol_rows.specs.RowForms.{is_row};
+ghost use Rattle.mol_log.specs.entries.Entries.{SpellsEntry};
+ghost use Rattle.mol_log.specs.entries.Trees.{Bad};
+ghost use Rattle.mol_log_rows.specs.lines.Lines.{Line, lines_left};
+ghost use Rattle.mol_log_rows.specs.rows.NextRow.{StandsOn};
+ghost use Rattle.mol_log_rows.specs.rows.RowForms.{is_row};
 ghost use Rattle.mol_log.specs.LogLines.{HaveFault, SayEntries};
 ghost use Rattle.mol_log.specs.NextEntry.{Stands, IsNextEntry};
 ghost use Rattle.mol_log.specs.Reading.{IsLogRead};
 
-use crate::{Log, LogFault};
+use crate::Log;
+use crate::entries::{Entry, read_entry};
 use mol_base::List;
-use mol_entries::{Entry, read_entry};
-use mol_lines::Header;
-use mol_rows::{Recorded, Rows, Start, read_start};
-use mol_words::BadWord;
+use mol_log_rows::{Header, LogFault, Recorded, Rows, Start, read_start};
+use mol_log_words::BadWord;
 use std::alloc::Global;
 
 /// The log that the bytes spell: a line for its header and one for each entry, each of which is a JSON text (RFC 8259) of its

@@ -6,14 +6,15 @@ ghost use Rattle.serde_json.specs.View.{view};
 ghost use Rattle.serde_json.specs.Written.{has_float};
 ghost use Rattle.mol_base.specs.Limits.{most};
 ghost use Rattle.mol_base.specs.declared.limit.Which.TheVariants.{LogBytes};
-ghost use Rattle.mol_lines.specs.Headers.{header_data};
+ghost use Rattle.mol_log_rows.specs.lines.Headers.{header_data};
 ghost use Rattle.mol_log.specs.Form.{IsLogText, header_of};
 ghost use Rattle.mol_log.specs.Written.{IsReadBack, entry_data, entry_text, line_text, written};
 
+use crate::Log;
+use crate::entries::Entry;
 use crate::objects::entry_value;
-use crate::{Entry, Log};
 use mol_base::{List, OutOfMemory};
-use mol_lines::header_value;
+use mol_log_rows::header_value;
 use serde_json::Value;
 use std::alloc::Global;
 

@@ -7,7 +7,7 @@ use Rattle.mol_base.specs.Modifiers.{constructor_words}
 use Rattle.mol_base.specs.declared.ident.Id.{Id}
 use Rattle.mol_table.specs.Forms.{is_param, is_formed}
 use Rattle.mol_table.specs.TypeForms.{is_result}
-use Rattle.mol_table.specs.Words.{are_words}
+use Rattle.mol_values.specs.Words.{are_words}
 use Rattle.mol_values.specs.declared.iblock.IBody.{IBody}
 use Rattle.mol_values.specs.declared.iexpr.IExpr.{IExpr}
 use Rattle.mol_values.specs.declared.itype.IType.{IType}

@@ -8,7 +8,8 @@ use crate::mentions::{Seen, check_parent};
 use crate::writes::rules;
 use crate::{ApplyFault, OpFault, Operation};
 use mol_base::{Id, List, OutOfMemory, Tag, Text};
-use mol_table::{IType, Kind, NewEntity, Notes, Table, Value, Words};
+use mol_table::{NewEntity, Table};
+use mol_values::{IType, Kind, Notes, Value, Words};
 use std::alloc::Global;
 
 /// Adds a class without members.

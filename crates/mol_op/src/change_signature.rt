@@ -9,7 +9,8 @@ use crate::params::known_params;
 use crate::writes::{rules, set_cell};
 use crate::{ApplyFault, OpFault, Operation};
 use mol_base::{Id, List, OutOfMemory, Tag};
-use mol_table::{Cell, IType, Param, Slot, Table, Value};
+use mol_table::Table;
+use mol_values::{Cell, IType, Param, Slot, Value};
 use std::alloc::Global;
 
 /// Gives a method another result and other parameters. Those that are not known become known.

@@ -9,7 +9,8 @@ ghost use Rattle.mol_op.specs.Tests.{IsVerdict, wanted, need_fault, new_fault, l
 
 use crate::OpFault;
 use mol_base::{Id, Tag};
-use mol_table::{IBody, Known, MethodKind, Table};
+use mol_table::Table;
+use mol_values::{IBody, Known, MethodKind};
 
 /// What an identity has to be known as.
 #[derive(Clone, Copy, Debug, PartialEq, Eq)]

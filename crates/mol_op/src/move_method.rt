@@ -3,7 +3,8 @@ use crate::conditions::{Want, declared, need};
 use crate::writes::set_cell;
 use crate::{ApplyFault, OpFault, Operation};
 use mol_base::{Id, OutOfMemory, Tag};
-use mol_table::{MethodKind, Table, Value};
+use mol_table::Table;
+use mol_values::{MethodKind, Value};
 use std::alloc::Global;
 
 /// Moves the declaration of a static method to another class.

@@ -10,7 +10,8 @@ use crate::OpFault;
 use crate::conditions::{fresh, listed};
 use crate::mentions::{Seen, check_type, entity_of, is_listed};
 use mol_base::{Id, Tag};
-use mol_table::{Known, Param, Table};
+use mol_table::Table;
+use mol_values::{Known, Param};
 
 /// The parameters of a method that is added are new. The entities are those that are named before them.
 pub fn new_params(

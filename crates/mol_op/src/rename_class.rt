@@ -6,7 +6,8 @@ use crate::conditions::{Want, need};
 use crate::writes::set_cell;
 use crate::{ApplyFault, OpFault, Operation};
 use mol_base::{Id, OutOfMemory, Tag, Text};
-use mol_table::{Table, Value};
+use mol_table::Table;
+use mol_values::Value;
 use std::alloc::Global;
 
 /// Gives a class another name.

@@ -8,7 +8,8 @@ use crate::mentions::{Seen, check_body};
 use crate::writes::{rules, set_cell};
 use crate::{ApplyFault, OpFault, Operation};
 use mol_base::{Id, OutOfMemory, Tag};
-use mol_table::{IBody, Table, Value};
+use mol_table::Table;
+use mol_values::{IBody, Value};
 use std::alloc::Global;
 
 /// Gives a declaration another body.

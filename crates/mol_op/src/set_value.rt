@@ -8,7 +8,8 @@ use crate::mentions::{Seen, check_maybe, check_type};
 use crate::writes::set_cell;
 use crate::{ApplyFault, OpFault, Operation};
 use mol_base::{Boxed, Id, OutOfMemory, Tag};
-use mol_table::{IExpr, IType, Table, Value};
+use mol_table::Table;
+use mol_values::{IExpr, IType, Value};
 use std::alloc::Global;
 
 /// Gives a field another type and first value.

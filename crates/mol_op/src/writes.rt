@@ -7,9 +7,8 @@ ghost use Rattle.mol_table.specs.Rules.{IsProgram};
 
 use crate::copies::{copy_body, copy_params};
 use mol_base::{Id, List, OutOfMemory, Text};
-use mol_table::{
-    Cell, IBody, IType, Kind, MethodKind, NewEntity, Notes, Param, Table, Value, Words,
-};
+use mol_table::{NewEntity, Table};
+use mol_values::{Cell, IBody, IType, Kind, MethodKind, Notes, Param, Value, Words};
 use std::alloc::Global;
 
 /// The rules of programs hold of every table. It does nothing.

@@ -1,17 +1,17 @@
 -- What is wrong first with files as the sources of a program.
 use Rattle.std.proofs.Common.{◌≡◌, List, ◌∷◌, ◌++◌, refl, ◌∙◌, ap}
-use Rattle.mol_name_faults.specs.ResolveFaults.{fault_of, place_of}
-use Rattle.mol_name_faults.specs.declared.fault.FaultPlace.{FaultPlace}
-use Rattle.mol_name_faults.specs.declared.fault.ResolveFault.{ResolveFault}
-use Rattle.mol_files.specs.Files.{ArePathsApart, FilePair}
+use Rattle.mol_resolve_faults.specs.ResolveFaults.{fault_of, place_of}
+use Rattle.mol_resolve_faults.specs.declared.fault.FaultPlace.{FaultPlace}
+use Rattle.mol_resolve_faults.specs.declared.fault.ResolveFault.{ResolveFault}
+use Rattle.mol_base.specs.Files.{ArePathsApart, FilePair}
 use Rattle.mol_program.specs.Programs.{AreParsed, IsUnread, Refuses, ReportsNames}
 use Rattle.mol_program.specs.declared.fault.ProgramFault.TheVariants.{Source, Resolve}
 use Rattle.mol_program.specs.declared.fault.ReadFault.{ReadFault}
 use Rattle.mol_program.specs.declared.fault.ReadFault.TheVariants.{Refused, OutOfMemory}
 use Rattle.mol_program.proofs.TreesOfFiles.{file-of, sources-of, trees-apart}
 use Rattle.mol_resolve.specs.Reported.{IsReported}
-use Rattle.mol_spell.specs.FaultKinds as kind
-use Rattle.mol_spell.specs.Files.{Files}
+use Rattle.mol_resolve_rules.specs.FaultKinds as kind
+use Rattle.mol_resolve_rules.specs.Files.{Files}
 
 -- # Texts
 

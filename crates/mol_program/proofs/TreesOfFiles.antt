@@ -5,14 +5,14 @@ use Rattle.std.specs.List.{All}
 use Rattle.std.proofs.lemmas.List.{drop_more, take-append-drop}
 use Rattle.std.proofs.lemmas.Option.{same_Some}
 use Rattle.mol_base.specs.declared.file.File.{File as Source}
-use Rattle.mol_plain.proofs.EntitiesPlain.{entities_plain}
-use Rattle.mol_plain.specs.Laws.{IsTree}
-use Rattle.mol_files.specs.Files.{ArePathsApart, FilePair, file_pair, file_pairs}
+use Rattle.mol_resolve_laws.proofs.EntitiesPlain.{entities_plain}
+use Rattle.mol_resolve_laws.specs.Laws.{IsTree}
+use Rattle.mol_base.specs.Files.{ArePathsApart, FilePair, file_pair, file_pairs}
 use Rattle.mol_program.specs.SourceTexts.{text_of}
 use Rattle.mol_program.specs.Programs.{AreParsed, AreRead, IsProgram, IsSourceFile}
-use Rattle.mol_spell.specs.Files.{File, Files, HasFile}
-use Rattle.mol_spell.specs.ReadAs.{IsParsed}
-use Rattle.mol_spell.specs.ResolveFaults.{HavePathsApart}
+use Rattle.mol_resolve_rules.specs.Files.{File, Files, HasFile}
+use Rattle.mol_resolve_rules.specs.ReadAs.{IsParsed}
+use Rattle.mol_resolve_rules.specs.ResolveFaults.{HavePathsApart}
 
 -- one of many files, with those before and after it
 pub split-at : (files : List Source) (i : ℕ) (file : Source) → i < length files → file ≡ get_or files i file

@@ -1,10 +1,10 @@
 -- What is wrong with a file of a program, in messages, and where that is.
 use Rattle.std.specs.Prelude.{ℕ, List, length, min, Option, None}
-use Rattle.jav_rules.specs.declared.feature.Feature.{Feature}
-use Rattle.mol_name_faults.specs.ResolveFaults.{name_of, place_of}
+use Rattle.jav_parse_unit.specs.declared.feature.Feature.{Feature}
+use Rattle.mol_resolve_faults.specs.ResolveFaults.{name_of, place_of}
 use Rattle.mol_program.specs.declared.fault.ProgramFault.{ProgramFault}
 use Rattle.mol_program.specs.declared.fault.ProgramFault.TheVariants.{Source, Resolve}
-use Rattle.mol_source.specs.FaultTexts as source
+use Rattle.jav_source.specs.FaultTexts as source
 
 -- The byte at which it is; of a fault of names the place of its tree, or the end of the file if that is less.
 abbrev pub place_at : List ℕ → ProgramFault → ℕ

@@ -3,21 +3,21 @@ use Rattle.std.specs.Prelude.{◌≡◌, ◌≢◌, ◌⊎◌, ⊤, ℕ, List, �
 use Rattle.std.specs.List.{All, AllZip}
 use Rattle.mol_base.specs.Lines.{column, line}
 use Rattle.mol_base.specs.declared.file.Place.{Place}
-use Rattle.mol_first_faults.specs.FirstByPath.{IsFirstOf}
-use Rattle.mol_name_faults.specs.ResolveFaults.{place_of}
-use Rattle.mol_name_faults.specs.declared.fault.ResolveFault.{ResolveFault}
-use Rattle.mol_name_faults.specs.declared.fault.ResolveFault.TheVariants as names
+use Rattle.mol_resolve_faults.specs.first_faults.FirstByPath.{IsFirstOf}
+use Rattle.mol_resolve_faults.specs.ResolveFaults.{place_of}
+use Rattle.mol_resolve_faults.specs.declared.fault.ResolveFault.{ResolveFault}
+use Rattle.mol_resolve_faults.specs.declared.fault.ResolveFault.TheVariants as names
 use Rattle.mol_program.specs.FaultTexts.{place_at}
-use Rattle.mol_files.specs.Files.{FilePair}
+use Rattle.mol_base.specs.Files.{FilePair}
 use Rattle.mol_program.specs.SourceTexts.{text_of, texts_of}
 use Rattle.mol_program.specs.declared.fault.ProgramFault.{ProgramFault}
 use Rattle.mol_program.specs.declared.fault.ProgramFault.TheVariants.{Source, Resolve}
 use Rattle.mol_program.specs.declared.fault.ReadFault.{ReadFault}
 use Rattle.mol_program.specs.declared.fault.ReadFault.TheVariants.{Refused, OutOfMemory}
-use Rattle.mol_source.specs.Sources.{IsFaultOf}
-use Rattle.mol_source.specs.declared.fault.SourceFault.{SourceFault}
-use Rattle.mol_spell.specs.Files.{File, Files}
-use Rattle.mol_spell.specs.ReadAs.{FilesReadAs, IsParsed, IsPlain, ReadAs}
+use Rattle.jav_source.specs.Sources.{IsFaultOf}
+use Rattle.jav_source.specs.declared.fault.SourceFault.{SourceFault}
+use Rattle.mol_resolve_rules.specs.Files.{File, Files}
+use Rattle.mol_resolve_rules.specs.ReadAs.{FilesReadAs, IsParsed, IsPlain, ReadAs}
 use Rattle.mol_table.specs.Program.{Program}
 
 -- # Programs

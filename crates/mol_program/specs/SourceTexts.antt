@@ -1,7 +1,7 @@
 -- Files as the texts of sources.
 use Rattle.std.specs.Prelude.{List, map}
-use Rattle.mol_files.specs.Files.{FilePair}
-use Rattle.mol_spell.specs.ReadAs.{SourceText}
+use Rattle.mol_base.specs.Files.{FilePair}
+use Rattle.mol_resolve_rules.specs.ReadAs.{SourceText}
 
 -- as the text of a source
 abbrev pub text_of : FilePair → SourceText

@@ -1,8 +1,8 @@
 //! Why source files are no program.
-use jav_rules::Feature;
+use jav_parse_unit::Feature;
+use jav_source::SourceFault;
 use mol_base::{OutOfMemory, Place};
-use mol_name_faults::ResolveFault;
-use mol_source::SourceFault;
+use mol_resolve_faults::ResolveFault;
 
 /// What is wrong with a source file of a program: with its text, or else with the names in it.
 #[derive(Clone, Copy, Debug, PartialEq, Eq)]

@@ -3,13 +3,13 @@ ghost use Rattle.std.specs.Prelude.{◌≡◌, ◌≤◌, length};
 ghost use Rattle.mol_base.specs.Limits.{most};
 ghost use Rattle.mol_base.specs.Lines.{column, line};
 ghost use Rattle.mol_program.specs.FaultTexts.{place_at};
-ghost use Rattle.mol_files.specs.Files.{AreSmall, file_pair, file_pairs};
+ghost use Rattle.mol_base.specs.Files.{AreSmall, file_pair, file_pairs};
 ghost use Rattle.mol_program.specs.Programs.{IsRefusedFor, IsWrongWith, Refuses, ReportsNames};
 
 use crate::fault::{ProgramFault, ReadFault};
+use jav_source::line_and_column_of;
 use mol_base::{File, OutOfMemory, Place, Which, line_and_column};
-use mol_name_faults::ResolveFault;
-use mol_source::line_and_column_of;
+use mol_resolve_faults::ResolveFault;
 use std::alloc::Global;
 
 /// A file that is refused for this fault.

@@ -1,20 +1,20 @@
 //! The trees of source files that are a program.
 ghost use Rattle.std.specs.Prelude.{◌≤◌, All, IfErr, IfOk, OnOk, length};
 ghost use Rattle.mol_base.specs.Limits.{most};
-ghost use Rattle.mol_plain.specs.Laws.{IsTree};
-ghost use Rattle.mol_files.specs.Files.{ArePathsApart, AreSmall, file_pair, file_pairs};
+ghost use Rattle.mol_resolve_laws.specs.Laws.{IsTree};
+ghost use Rattle.mol_base.specs.Files.{ArePathsApart, AreSmall, file_pair, file_pairs};
 ghost use Rattle.mol_program.specs.SourceTexts.{text_of};
 ghost use Rattle.mol_program.specs.Programs.{AreParsed, AreRead, HasProgram, IsProgram, IsReadAs, IsUnread, Refuses};
 ghost use Rattle.mol_resolve.specs.Reported.{IsReported};
-ghost use Rattle.mol_sources.specs.Sources.{file_of, files_of};
-ghost use Rattle.mol_spell.specs.ReadAs.{IsParsed};
+ghost use Rattle.mol_resolve_members.specs.sources.Sources.{file_of, files_of};
+ghost use Rattle.mol_resolve_rules.specs.ReadAs.{IsParsed};
 
 use crate::fault::{ProgramFault, ReadFault};
 use crate::refusing::{refused, refused_names};
+use jav_source::{UnitFault, unit_of};
 use mol_base::{File, List, Which};
-use mol_name_faults::ResolveFault;
 use mol_resolve::{SourceUnit, resolve, resolve_units};
-use mol_source::{UnitFault, unit_of};
+use mol_resolve_faults::ResolveFault;
 use mol_table::Table;
 use std::alloc::Global;
 

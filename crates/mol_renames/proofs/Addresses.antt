@@ -12,7 +12,7 @@ use Rattle.std.proofs.Common.{⊎_elim}
 use Rattle.mol_renames.specs.Names.{is_lower, is_upper, is_digit, is_segment, is_package, is_class_name}
 use Rattle.mol_base.specs.Limits.{max_name_bytes}
 use Rattle.mol_base.specs.Paths.{path_of}
-use Rattle.mol_files.specs.Files.{FilePair}
+use Rattle.mol_base.specs.Files.{FilePair}
 use Rattle.mol_renames.specs.ClassFiles.{Address, IsClassFile, address_in, cut_address, is_file_of, text_of}
 use Rattle.mol_renames.proofs.Cuts.{before_there, after_there}
 

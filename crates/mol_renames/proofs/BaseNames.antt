@@ -5,7 +5,7 @@ use Rattle.std.proofs.lemmas.Bool.{and_from}
 use Rattle.std.specs.Cmp.Lexicographic.{pointwise}
 use Rattle.mol_base.specs.Paths.{path_of}
 use Rattle.mol_renames.specs.Addresses.{is_named}
-use Rattle.mol_files.specs.Files.{FilePair}
+use Rattle.mol_base.specs.Files.{FilePair}
 use Rattle.mol_renames.specs.ClassFiles.{Address, address_in, cut_address, text_of}
 use Rattle.mol_renames.specs.Names.{is_class_name, is_package}
 

@@ -15,7 +15,7 @@ use Rattle.std.proofs.lemmas.Bool.{eqb-true}
 use Rattle.std.proofs.lemmas.Str.Ascii.{IsAscii-cons, IsAscii-nil}
 use Rattle.std.proofs.Math.Seq.{drop-cons, drop-length, take-append_seam, get_or-append_seam, drop-append-add}
 use Rattle.mol_base.specs.Paths.{path_of, slash_for_dot}
-use Rattle.mol_files.specs.Files.{FilePair, file_pair, file_pairs}
+use Rattle.mol_base.specs.Files.{FilePair, file_pair, file_pairs}
 use Rattle.mol_renames.specs.ClassFiles.{FilesByPath, file_of, bundled}
 use Rattle.mol_renames.specs.Rows.{class_in, classes_in}
 use Rattle.mol_base.specs.declared.file.File.{File}

@@ -6,7 +6,7 @@ use Rattle.std.proofs.Math.Seq.{drop-cons}
 use Rattle.std.proofs.Math.ListN.{take-append-drop}
 use Rattle.mol_base.specs.declared.file.File.{File}
 use Rattle.mol_renames.specs.Addresses.{address_pair, address_pairs, is_unbuilt, unbuilt_path}
-use Rattle.mol_files.specs.Files.{FilePair, file_pair, file_pairs}
+use Rattle.mol_base.specs.Files.{FilePair, file_pair, file_pairs}
 use Rattle.mol_renames.specs.ClassFiles.{address_in}
 use Rattle.mol_renames.specs.declared.class_file.Address.{Address as Held}
 

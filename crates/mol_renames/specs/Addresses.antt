@@ -1,6 +1,6 @@
 -- Addresses of classes, as the program holds them.
 use Rattle.std.specs.Prelude.{◌≡◌, ◌&&◌, ⊤, ℕ, Bool, List, map, find, Option, Some, option_map, is_none}
-use Rattle.mol_files.specs.Files.{FilePair}
+use Rattle.mol_base.specs.Files.{FilePair}
 use Rattle.mol_renames.specs.ClassFiles.{Address as AddressPair, address_in}
 use Rattle.mol_renames.specs.Names.{is_class_name, is_package}
 use Rattle.mol_renames.specs.declared.built.AddressFault.{AddressFault}

@@ -5,7 +5,7 @@ use Rattle.mol_table.specs.Rules.{IsProgram}
 use Rattle.mol_renames.specs.ClassFiles.{class_list, file_list}
 use Rattle.mol_renames.specs.Faults.{Class, classes_of, faults}
 use Rattle.mol_renames.specs.Merge.{conflicts, conflicts_in_order, united, united_in_order, merged_log}
-use Rattle.mol_files.specs.Files.{file_pairs}
+use Rattle.mol_base.specs.Files.{file_pairs}
 use Rattle.mol_renames.specs.LogRefusals.{replay_refusal}
 use Rattle.mol_renames.specs.Rows.{classes_in}
 use Rattle.mol_renames.specs.Writes.{after}

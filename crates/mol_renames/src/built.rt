@@ -6,11 +6,12 @@ ghost use Rattle.mol_base.specs.declared.limit.Which.TheVariants as limits;
 ghost use Rattle.mol_renames.specs.BaseProgram.{base_program, class_entity as class_entity_of, class_entities as class_entities_of};
 ghost use Rattle.mol_renames.specs.Addresses.{address_pair, address_pairs, is_named, is_unbuilt, IsAddressFault};
 ghost use Rattle.mol_renames.specs.ClassFiles.{address_in as address_in_pair};
-ghost use Rattle.mol_files.specs.Files.{file_pairs};
+ghost use Rattle.mol_base.specs.Files.{file_pairs};
 
 use crate::class_file::{Address, address_in};
 use mol_base::{File, Id, List, OutOfMemory, Tag, Text};
-use mol_table::{Kind, NewEntity, Notes, Table, Value, Words};
+use mol_table::{NewEntity, Table};
+use mol_values::{Kind, Notes, Value, Words};
 use std::alloc::{AllocFailed, Global};
 
 /// Why the files of a base are no program.

@@ -4,7 +4,7 @@ ghost use Rattle.std.specs.List.{before_first, after_first, position};
 ghost use Rattle.mol_renames.specs.ClassFiles as spec;
 ghost use Rattle.mol_renames.specs.ClassFiles.{IsClassFile, IsOnlyClass, text_of};
 ghost use Rattle.mol_renames.specs.Addresses.{address_pair};
-ghost use Rattle.mol_files.specs.Files.{file_pair};
+ghost use Rattle.mol_base.specs.Files.{file_pair};
 
 use crate::names::{is_class_name, is_package};
 use mol_base::{File, OutOfMemory, Text, path_of};

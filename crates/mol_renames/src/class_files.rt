@@ -2,7 +2,7 @@
 ghost use Rattle.std.specs.Prelude.{◌≡◌, ◌++◌, map, IfOk, OnOk};
 ghost use Rattle.std.specs.List.{concat};
 ghost use Rattle.sha2.specs.Sha256.{sha256};
-ghost use Rattle.mol_files.specs.Files.{file_pair, file_pairs};
+ghost use Rattle.mol_base.specs.Files.{file_pair, file_pairs};
 ghost use Rattle.mol_renames.specs.ClassFiles.{bundled, class_list, file_of as file_of_class};
 ghost use Rattle.mol_renames.specs.Rows.{class_in, classes_in};
 

@@ -9,7 +9,8 @@ ghost use Rattle.mol_renames.specs.Texts.{text_at, text_of_value};
 
 use crate::rows::Row;
 use mol_base::{Id, OutOfMemory, Text};
-use mol_table::{Cell, Slot, Table, Value};
+use mol_table::Table;
+use mol_values::{Cell, Slot, Value};
 use std::alloc::Global;
 
 /// The living classes of a program, ascending by identity, each with its package and its name. The time is that of

@@ -12,7 +12,8 @@ use crate::last_writes::LastWrites;
 use crate::stamps::stamps_of;
 use crate::{Conflict, ConflictKind, Entry, Fault};
 use mol_base::{Id, List, OutOfMemory};
-use mol_table::{Cell, Slot, Table, Value};
+use mol_table::Table;
+use mol_values::{Cell, Slot, Value};
 use std::alloc::Global;
 
 /// The conflicts of the logs: those of pairs, or else the faults of what both leave together, which are

@@ -5,7 +5,7 @@ use Rattle.std.specs.Fmt.{decimal}
 use Rattle.std.specs.Option.{option_map_or}
 use Rattle.mol_base.specs.Identity.{spelled_id}
 use Rattle.mol_base.specs.declared.ident.Id.{Id}
-use Rattle.mol_spell.specs.StaticTypes.{present_param}
+use Rattle.mol_resolve_rules.specs.StaticTypes.{present_param}
 use Rattle.mol_table.specs.Faults.{Address, class_address, field_address, method_address, constructor_address, address}
 use Rattle.mol_table.specs.Program.{Program, package_at, name_at}
 use Rattle.mol_table.specs.Renumber.{topmost}

@@ -7,8 +7,9 @@ ghost use Rattle.mol_table.specs.Faults.{class_address, decl_address, field_addr
 ghost use Rattle.mol_table.specs.Program.{name_at, owner_at, package_at};
 
 use mol_base::{Id, OutOfMemory};
-use mol_cells::{name_of, owner_of, package_of, params_of};
-use mol_table::{Known, MethodKind, Table};
+use mol_scope_classes::{name_of, owner_of, package_of, params_of};
+use mol_table::Table;
+use mol_values::{Known, MethodKind};
 use std::alloc::Global;
 
 /// Appends the full name of a class.

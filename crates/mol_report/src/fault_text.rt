@@ -1,15 +1,16 @@
 //! The texts of faults.
 ghost use Rattle.std.specs.Prelude.{◌≡◌, ◌++◌, ◌∷◌, IfOk, OnOk, codes};
 ghost use Rattle.std.specs.Fmt.{decimal};
-ghost use Rattle.mol_fault.specs.Kept.{kept_fault, kept_target};
+ghost use Rattle.mol_faults_rules.specs.Kept.{kept_fault, kept_target};
 ghost use Rattle.mol_report.specs.FaultText.{fault_text, pair_text, target_text};
 ghost use Rattle.mol_report.specs.Labels.{cell_text, id_text};
 
 use crate::addresses::push_number;
 use crate::labels::Labels;
 use mol_base::{Id, List, OutOfMemory, Text};
-use mol_fault::{Fault, Target};
-use mol_table::{Cell, Table};
+use mol_faults_rules::{Fault, Target};
+use mol_table::Table;
+use mol_values::Cell;
 use std::alloc::Global;
 
 /// The text of a fault, without a line end: its name in lower-case words joined by `-`, and its fields, a space before each. An identity

@@ -9,9 +9,10 @@ ghost use Rattle.mol_values.specs.declared.known.Known.TheVariants as knowns;
 use crate::addresses::{push_class, push_declaration, push_field};
 use crate::slots::slot_word;
 use mol_base::{Id, OutOfMemory};
-use mol_cells::params_of;
-use mol_table::{Cell, Known, Param, Table};
-use mol_topmost::Topmost;
+use mol_scope_classes::params_of;
+use mol_scope_members::Topmost;
+use mol_table::Table;
+use mol_values::{Cell, Known, Param};
 use std::alloc::Global;
 use std::marker::Model;
 

@@ -13,29 +13,29 @@ use Rattle.jav_tree.specs.declared.unit.Ctor.{Ctor}
 use Rattle.jav_tree.specs.declared.unit.Member.{Member}
 use Rattle.jav_tree.specs.declared.unit.Member.TheVariants as member
 use Rattle.jav_tree.specs.declared.unit.Method.{Method}
-use Rattle.jav_view.specs.UnitViews.{MemberKey, declaration_in, numbered}
-use Rattle.jav_view.specs.Views.{ViewDeclaration, View}
-use Rattle.mol_file_entities.specs.EntitiesRead.{AreEntitiesAt, AreMethodIds, IsMemberAt, IsMemberRead, reader_at}
-use Rattle.mol_member_entities.specs.declared.member_entities.MemberEntities.{MemberEntities}
-use Rattle.mol_member_entities.specs.declared.member_ids.MethodIds.{MethodIds}
-use Rattle.mol_name_faults.proofs.SameFaults.{kept_alike}
-use Rattle.mol_name_faults.specs.First.{all_noted}
-use Rattle.mol_numbers.proofs.MemberKeys.{made-there}
-use Rattle.mol_numbers.specs.Members.{HasArity, IsMember}
-use Rattle.mol_places.specs.Listings.{HasMember, key_of}
-use Rattle.mol_plain.specs.Entities.{entity_of}
-use Rattle.mol_reads.specs.Reads.{Reads}
+use Rattle.jav_names.specs.UnitViews.{MemberKey, declaration_in, numbered}
+use Rattle.jav_names.specs.Views.{ViewDeclaration, View}
+use Rattle.mol_resolve_entities.specs.file_entities.EntitiesRead.{AreEntitiesAt, AreMethodIds, IsMemberAt, IsMemberRead, reader_at}
+use Rattle.mol_resolve_entities.specs.declared.member_entities.member_entities.MemberEntities.{MemberEntities}
+use Rattle.mol_resolve_entities.specs.declared.member_entities.member_ids.MethodIds.{MethodIds}
+use Rattle.mol_resolve_faults.proofs.SameFaults.{kept_alike}
+use Rattle.mol_resolve_faults.specs.First.{all_noted}
+use Rattle.mol_resolve_members.proofs.numbers_lemmas.MemberKeys.{made-there}
+use Rattle.mol_resolve_members.specs.numbers.Members.{HasArity, IsMember}
+use Rattle.mol_resolve_members.specs.places.Listings.{HasMember, key_of}
+use Rattle.mol_resolve_laws.specs.Entities.{entity_of}
+use Rattle.mol_resolve_readings.specs.reads.Reads.{Reads}
 use Rattle.mol_resolve.proofs.FilesAdded.{keys-added, none-added}
 use Rattle.mol_resolve.specs.Added.{AreAdded}
 use Rattle.mol_resolve.specs.ReadAtPlaces.{IsMemberAdded, IsReadAt, ReadsAt}
 use Rattle.mol_resolve.specs.declared.entities.Entities.{Entities}
-use Rattle.mol_sources.proofs.Sourced.{file-there, source-there, sources_viewed}
-use Rattle.mol_sources.specs.Sources.{file_of, files_of}
-use Rattle.mol_spell.specs.Files.{File, Files, declaration_at, files_view, placed}
-use Rattle.mol_spell.specs.Numbering.{below, ids_of, member_keys, numbered_at_key, same_key, topmost}
-use Rattle.mol_spell.specs.Outcomes.{TreeFault, Outcome}
-use Rattle.mol_spell.specs.ReadFiles.{member_faults, member_reader}
-use Rattle.mol_spell.specs.Readers.{Reader}
+use Rattle.mol_resolve_members.proofs.sources_lemmas.Sourced.{file-there, source-there, sources_viewed}
+use Rattle.mol_resolve_members.specs.sources.Sources.{file_of, files_of}
+use Rattle.mol_resolve_rules.specs.Files.{File, Files, declaration_at, files_view, placed}
+use Rattle.mol_resolve_rules.specs.Numbering.{below, ids_of, member_keys, numbered_at_key, same_key, topmost}
+use Rattle.mol_resolve_rules.specs.Outcomes.{TreeFault, Outcome}
+use Rattle.mol_resolve_rules.specs.ReadFiles.{member_faults, member_reader}
+use Rattle.mol_resolve_rules.specs.Readers.{Reader}
 
 module _ (sources : List SourceUnit) where
   abbrev files : Files

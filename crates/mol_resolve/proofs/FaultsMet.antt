@@ -4,31 +4,31 @@ use Rattle.std.proofs.lemmas.List.{drop_more, length-map, take-append-drop, take
 use Rattle.std.proofs.lemmas.List.Elements.{Contains-push_cases}
 use Rattle.std.proofs.lemmas.Option.{get_or_from_slice_get, same_Some, slice_get-map, slice_get_within}
 use Rattle.jav_scope.specs.declared.source.SourceUnit.{SourceUnit}
-use Rattle.jav_view.proofs.Lists.{stands_nowhere}
-use Rattle.jav_view.specs.UnitViews.{numbered}
-use Rattle.mol_first_faults.specs.FirstByPath.{first_in, IsFirstOf}
-use Rattle.mol_first_faults.proofs.FirstInOrder.{first_by_path}
-use Rattle.mol_name_faults.proofs.SameFaults.{kept_alike}
-use Rattle.mol_name_faults.specs.First.{all_noted}
-use Rattle.mol_name_faults.specs.ResolveFaults.{resolve_fault}
-use Rattle.mol_name_faults.specs.declared.fault.ResolveFault.{ResolveFault}
-use Rattle.mol_places.specs.Orders.{numbers_by_path}
-use Rattle.mol_plain.specs.Entities.{plain_entities}
+use Rattle.jav_names.proofs.Lists.{stands_nowhere}
+use Rattle.jav_names.specs.UnitViews.{numbered}
+use Rattle.mol_resolve_faults.specs.first_faults.FirstByPath.{first_in, IsFirstOf}
+use Rattle.mol_resolve_faults.proofs.first_faults_lemmas.FirstInOrder.{first_by_path}
+use Rattle.mol_resolve_faults.proofs.SameFaults.{kept_alike}
+use Rattle.mol_resolve_faults.specs.First.{all_noted}
+use Rattle.mol_resolve_faults.specs.ResolveFaults.{resolve_fault}
+use Rattle.mol_resolve_faults.specs.declared.fault.ResolveFault.{ResolveFault}
+use Rattle.mol_resolve_members.specs.places.Orders.{numbers_by_path}
+use Rattle.mol_resolve_laws.specs.Entities.{plain_entities}
 use Rattle.mol_resolve.proofs.FilesAdded.{AreRead, all-read, one-more}
 use Rattle.mol_resolve.specs.Added.{IsAdded}
 use Rattle.mol_resolve.specs.declared.entities.Entities.{Entities}
-use Rattle.mol_sources.proofs.Sourced.{source-there}
-use Rattle.mol_sources.specs.Sources.{file_of, files_of}
-use Rattle.mol_spell.proofs.FilesStand.{from-by_path}
-use Rattle.mol_spell.proofs.Stands.{from_numbered, get-below, in_place}
-use Rattle.mol_spell.specs.FaultKinds.{every_kind}
-use Rattle.mol_spell.specs.FaultLists.{at_place, faults_beside, has_fault}
-use Rattle.mol_spell.specs.Files.{File, Files, placed}
-use Rattle.mol_spell.specs.Numbering.{by_path}
-use Rattle.mol_spell.specs.Outcomes.{TreeFault}
-use Rattle.mol_spell.specs.ReadAs.{HasNoFault}
-use Rattle.mol_spell.specs.ReadFiles.{member_faults, superclass_faults}
-use Rattle.mol_spell.specs.ResolveFaults.{HavePathsApart, rows_in}
+use Rattle.mol_resolve_members.proofs.sources_lemmas.Sourced.{source-there}
+use Rattle.mol_resolve_members.specs.sources.Sources.{file_of, files_of}
+use Rattle.mol_resolve_rules.proofs.FilesStand.{from-by_path}
+use Rattle.mol_resolve_rules.proofs.Stands.{from_numbered, get-below, in_place}
+use Rattle.mol_resolve_rules.specs.FaultKinds.{every_kind}
+use Rattle.mol_resolve_rules.specs.FaultLists.{at_place, faults_beside, has_fault}
+use Rattle.mol_resolve_rules.specs.Files.{File, Files, placed}
+use Rattle.mol_resolve_rules.specs.Numbering.{by_path}
+use Rattle.mol_resolve_rules.specs.Outcomes.{TreeFault}
+use Rattle.mol_resolve_rules.specs.ReadAs.{HasNoFault}
+use Rattle.mol_resolve_rules.specs.ReadFiles.{member_faults, superclass_faults}
+use Rattle.mol_resolve_rules.specs.ResolveFaults.{HavePathsApart, rows_in}
 
 -- ---- in one file
 

@@ -2,14 +2,14 @@
 use Rattle.std.proofs.Common.{◌≡◌, ℕ, List, [], ◌∷◌, ◌++◌, map, flat_map, append_assoc, refl, sym, ◌∙◌, ap}
 use Rattle.std.proofs.lemmas.List.{append-nil, map-append}
 use Rattle.std.proofs.lemmas.List.Concat.{flat_map-append}
-use Rattle.jav_view.specs.UnitViews.{MemberKey, numbered}
-use Rattle.mol_plain.specs.Entities.{entity_of, plain_entities}
+use Rattle.jav_names.specs.UnitViews.{MemberKey, numbered}
+use Rattle.mol_resolve_laws.specs.Entities.{entity_of, plain_entities}
 use Rattle.mol_resolve.proofs.ReadInOrder.{all-in_order, classes_in, kept-after, members_in, methods_in}
 use Rattle.mol_resolve.specs.Added.{of_items, AreAdded, IsAdded, IsClassAdded}
 use Rattle.mol_resolve.specs.declared.entities.Entities.{Entities}
-use Rattle.mol_spell.specs.Files.{File, Files, files_view}
-use Rattle.mol_spell.specs.Numbering.{Numbered, numbered_class, numbered_member, numbered_at_key, by_path, member_keys}
-use Rattle.mol_spell.specs.ReadAs.{HasNoFault}
+use Rattle.mol_resolve_rules.specs.Files.{File, Files, files_view}
+use Rattle.mol_resolve_rules.specs.Numbering.{Numbered, numbered_class, numbered_member, numbered_at_key, by_path, member_keys}
+use Rattle.mol_resolve_rules.specs.ReadAs.{HasNoFault}
 use Rattle.mol_table.specs.declared.entity.NewEntity.{NewEntity}
 
 -- entities after others, and further ones

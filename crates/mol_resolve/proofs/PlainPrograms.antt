@@ -1,11 +1,11 @@
 -- The entities of files without a fault may be added together, and make their program in plain form.
 use Rattle.std.proofs.Common.{◌≡◌, List, ◌∙◌, ap, subst, sym}
 use Rattle.std.specs.List.{All}
-use Rattle.mol_plain.proofs.EntitiesPlain.{entities_plain}
-use Rattle.mol_plain.specs.Entities.{plain_entities}
-use Rattle.mol_plain.specs.Laws.{IsTree}
-use Rattle.mol_spell.specs.Files.{Files}
-use Rattle.mol_spell.specs.ReadAs.{FilesReadAs, HasNoFault, IsPlain}
+use Rattle.mol_resolve_laws.proofs.EntitiesPlain.{entities_plain}
+use Rattle.mol_resolve_laws.specs.Entities.{plain_entities}
+use Rattle.mol_resolve_laws.specs.Laws.{IsTree}
+use Rattle.mol_resolve_rules.specs.Files.{Files}
+use Rattle.mol_resolve_rules.specs.ReadAs.{FilesReadAs, HasNoFault, IsPlain}
 use Rattle.mol_table.specs.Program.{Program, nothing}
 use Rattle.mol_table.specs.Writes.{AreNew, with_entities}
 use Rattle.mol_table.specs.declared.entity.NewEntity.{NewEntity}

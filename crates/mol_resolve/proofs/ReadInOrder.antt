@@ -1,12 +1,12 @@
 -- The entities of files that were read, one file further, and of all files.
 use Rattle.std.proofs.Common.{◌≡◌, ℕ, List, [], ◌∷◌, ◌++◌, map, flat_map, filter_map, Option, Some, None, refl, sym, ◌∙◌, ap}
 use Rattle.std.specs.List.{cons_option}
-use Rattle.mol_plain.specs.Entities.{entity_of, plain_entities}
+use Rattle.mol_resolve_laws.specs.Entities.{entity_of, plain_entities}
 use Rattle.mol_resolve.specs.Added.{of_items}
 use Rattle.mol_table.specs.declared.entity.NewEntity.{NewEntity}
-use Rattle.jav_view.specs.UnitViews.{numbered}
-use Rattle.mol_spell.specs.Files.{File, Files, files_view}
-use Rattle.mol_spell.specs.Numbering.{numbered_class, numbered_member, numbered_at_key, member_keys, by_path}
+use Rattle.jav_names.specs.UnitViews.{numbered}
+use Rattle.mol_resolve_rules.specs.Files.{File, Files, files_view}
+use Rattle.mol_resolve_rules.specs.Numbering.{numbered_class, numbered_member, numbered_at_key, member_keys, by_path}
 
 pub kept-after : {X Y : Type 0} (make : X → Option Y) (xs ys : List X)
     → filter_map make (xs ++ ys) ≡ filter_map make xs ++ filter_map make ys

@@ -1,11 +1,11 @@
 -- The entities of files, added after others in the order of numbers.
 use Rattle.std.specs.Prelude.{◌≡◌, ℕ, List, [], ◌∷◌, ◌++◌, map, filter_map}
 use Rattle.std.specs.List.{flat_map}
-use Rattle.jav_view.specs.UnitViews.{MemberKey}
-use Rattle.mol_plain.specs.Entities.{entity_of}
-use Rattle.mol_spell.specs.Files.{File, Files, files_view}
-use Rattle.mol_spell.specs.Numbering.{Numbered, numbered_class, numbered_member, numbered_at_key, member_keys}
-use Rattle.mol_spell.specs.ReadAs.{HasNoFault}
+use Rattle.jav_names.specs.UnitViews.{MemberKey}
+use Rattle.mol_resolve_laws.specs.Entities.{entity_of}
+use Rattle.mol_resolve_rules.specs.Files.{File, Files, files_view}
+use Rattle.mol_resolve_rules.specs.Numbering.{Numbered, numbered_class, numbered_member, numbered_at_key, member_keys}
+use Rattle.mol_resolve_rules.specs.ReadAs.{HasNoFault}
 use Rattle.mol_table.specs.declared.entity.NewEntity.{NewEntity}
 use Rattle.mol_resolve.specs.declared.entities.Entities.{Entities}
 

@@ -2,18 +2,18 @@
 use Rattle.std.specs.Prelude.{◌≡◌, ℕ, List, [], ◌∷◌, Option}
 use Rattle.jav_scope.specs.declared.source.SourceUnit.{SourceUnit}
 use Rattle.jav_tree.specs.declared.unit.Member.{Member}
-use Rattle.jav_view.specs.UnitViews.{MemberKey}
-use Rattle.mol_file_entities.specs.EntitiesRead.{AreEntitiesAt, IsMemberAt, placed_at, reader_at}
-use Rattle.mol_member_entities.specs.declared.member_entities.MemberEntities.{MemberEntities}
-use Rattle.mol_name_faults.specs.First.{all_noted}
+use Rattle.jav_names.specs.UnitViews.{MemberKey}
+use Rattle.mol_resolve_entities.specs.file_entities.EntitiesRead.{AreEntitiesAt, IsMemberAt, placed_at, reader_at}
+use Rattle.mol_resolve_entities.specs.declared.member_entities.member_entities.MemberEntities.{MemberEntities}
+use Rattle.mol_resolve_faults.specs.First.{all_noted}
 use Rattle.mol_resolve.specs.Added.{AreAdded}
 use Rattle.mol_resolve.specs.declared.entities.Entities.{Entities}
-use Rattle.mol_sources.specs.Sources.{files_of}
-use Rattle.mol_spell.specs.Files.{File, Files}
-use Rattle.mol_spell.specs.Outcomes.{TreeFault}
-use Rattle.mol_spell.specs.ReadAs.{HasNoFault}
-use Rattle.mol_spell.specs.ReadFiles.{member_faults}
-use Rattle.mol_spell.specs.Readers.{Reader}
+use Rattle.mol_resolve_members.specs.sources.Sources.{files_of}
+use Rattle.mol_resolve_rules.specs.Files.{File, Files}
+use Rattle.mol_resolve_rules.specs.Outcomes.{TreeFault}
+use Rattle.mol_resolve_rules.specs.ReadAs.{HasNoFault}
+use Rattle.mol_resolve_rules.specs.ReadFiles.{member_faults}
+use Rattle.mol_resolve_rules.specs.Readers.{Reader}
 
 -- Names are read as in the member of a key.
 abbrev pub ReadsAt : List SourceUnit → MemberKey → Member → Reader ℕ MemberKey → Type 0

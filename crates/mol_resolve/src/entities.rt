@@ -3,7 +3,7 @@ ghost use Rattle.std.specs.Prelude.{◌≡◌, ◌∷◌, ◌++◌, [], IfOk, On
 ghost use Rattle.std.specs.Option.{option_and_then, option_to_list};
 
 use mol_base::{List, OutOfMemory};
-use mol_member_entities::MemberEntities;
+use mol_resolve_entities::MemberEntities;
 use mol_table::NewEntity;
 use std::alloc::Global;
 

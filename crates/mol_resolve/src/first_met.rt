@@ -1,8 +1,8 @@
 //! The fault for which a file is refused.
 ghost use Rattle.std.specs.Prelude.{◌≡◌, None, Some, IfErr, OnOk, option_map};
-ghost use Rattle.mol_name_faults.specs.ResolveFaults.{resolve_fault};
+ghost use Rattle.mol_resolve_faults.specs.ResolveFaults.{resolve_fault};
 
-use mol_name_faults::{FirstFault, ResolveFault};
+use mol_resolve_faults::{FirstFault, ResolveFault};
 
 /// The first of the faults that were met in the file of this number, if one was. It takes no memory.
 pub(crate) fn unless_met(faults: &FirstFault, unit: u32) -> Result<(), ResolveFault>

@@ -1,27 +1,27 @@
 //! Members of source files, each at its place.
 ghost use Rattle.std.specs.Prelude.{◌≡◌, ℕ, IfOk, OnOk, Some, flat_map, slice_get};
-ghost use Rattle.jav_view.specs.UnitViews.{numbered};
-ghost use Rattle.mol_file_entities.specs.EntitiesRead.{AreMemberIds, AreMethodIds};
-ghost use Rattle.mol_name_faults.specs.First.{all_noted};
-ghost use Rattle.mol_names.specs.InMember.{reader_of};
-ghost use Rattle.mol_numbers.specs.Members.{HasArity, IsMember};
-ghost use Rattle.mol_places.specs.Listings.{HasMember, key_of};
+ghost use Rattle.jav_names.specs.UnitViews.{numbered};
+ghost use Rattle.mol_resolve_entities.specs.file_entities.EntitiesRead.{AreMemberIds, AreMethodIds};
+ghost use Rattle.mol_resolve_faults.specs.First.{all_noted};
+ghost use Rattle.mol_resolve_names.specs.names.InMember.{reader_of};
+ghost use Rattle.mol_resolve_members.specs.numbers.Members.{HasArity, IsMember};
+ghost use Rattle.mol_resolve_members.specs.places.Listings.{HasMember, key_of};
 ghost use Rattle.mol_resolve.specs.Added.{AreAdded};
 ghost use Rattle.mol_resolve.specs.ReadAtPlaces.{IsReadAt, ReadsAt, IsMemberAdded};
-ghost use Rattle.mol_sources.specs.Sources.{file_of, files_of};
-ghost use Rattle.mol_spell.specs.Files.{File, placed};
-ghost use Rattle.mol_spell.specs.Numbering.{member_keys};
-ghost use Rattle.mol_spell.specs.ReadFiles.{member_faults};
+ghost use Rattle.mol_resolve_members.specs.sources.Sources.{file_of, files_of};
+ghost use Rattle.mol_resolve_rules.specs.Files.{File, placed};
+ghost use Rattle.mol_resolve_rules.specs.Numbering.{member_keys};
+ghost use Rattle.mol_resolve_rules.specs.ReadFiles.{member_faults};
 
 use crate::entities::Entities;
+use crate::file_members::MemberReader;
 use crate::file_reader::FileReader;
 use jav_scope::{MemberRef, SourceUnit};
 use jav_tree::Member;
 use mol_base::{OutOfMemory, number_of};
-use mol_file_members::MemberReader;
-use mol_member_entities::{MemberEntities, MemberIds, MethodIds};
-use mol_name_faults::FirstFault;
-use mol_names::MemberNames;
+use mol_resolve_entities::{MemberEntities, MemberIds, MethodIds};
+use mol_resolve_faults::FirstFault;
+use mol_resolve_names::MemberNames;
 
 impl FileReader<'_> {
     /// Adds the members of a file and their methods, and notes what is met in them.

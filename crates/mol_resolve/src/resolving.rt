@@ -1,21 +1,19 @@
 //! Source files as a program.
 ghost use Rattle.std.specs.Prelude.{◌≡◌, All, IfOk, IfErr, OnOk};
-ghost use Rattle.mol_places.specs.Orders.{numbers_by_path};
-ghost use Rattle.mol_plain.specs.Entities.{plain_entities};
-ghost use Rattle.mol_plain.specs.Laws.{IsTree};
+ghost use Rattle.mol_resolve_members.specs.places.Orders.{numbers_by_path};
+ghost use Rattle.mol_resolve_laws.specs.Entities.{plain_entities};
+ghost use Rattle.mol_resolve_laws.specs.Laws.{IsTree};
 ghost use Rattle.mol_resolve.specs.Reported.{IsReported};
-ghost use Rattle.mol_sources.specs.Sources.{files_of};
-ghost use Rattle.mol_spell.specs.ReadAs.{FilesReadAs, HasNoFault, IsPlain};
+ghost use Rattle.mol_resolve_members.specs.sources.Sources.{files_of};
+ghost use Rattle.mol_resolve_rules.specs.ReadAs.{FilesReadAs, HasNoFault, IsPlain};
 ghost use Rattle.mol_table.specs.Program.{nothing};
 ghost use Rattle.mol_table.specs.Writes.{AreNew, with_entities};
 
 use crate::file_reader::FileReader;
 use jav_scope::{Scope, SourceUnit};
 use mol_base::{List, OutOfMemory};
-use mol_name_faults::ResolveFault;
-use mol_numbers::Numbers;
-use mol_places::by_path;
-use mol_related::Members;
+use mol_resolve_faults::ResolveFault;
+use mol_resolve_members::{Members, Numbers, by_path};
 use mol_table::{NewEntity, Table};
 use std::alloc::Global;
 

@@ -1,18 +1,18 @@
 //! What classes extend.
 ghost use Rattle.std.specs.Prelude.{◌≡◌, ◌<◌, IfOk, Some, length, option_map, slice_get};
 ghost use Rattle.jav_scope.specs.declared.source.SourceUnit.{SourceUnit};
-ghost use Rattle.mol_meant.specs.Kept.{view_reading};
-ghost use Rattle.mol_member_entities.specs.Headings.{superclass_read, tree_in};
-ghost use Rattle.mol_reads.specs.Reads.{Reads};
-ghost use Rattle.mol_sources.specs.Sources.{file_of, files_of};
-ghost use Rattle.mol_spell.specs.ReadFiles.{file_reader};
+ghost use Rattle.mol_resolve_readings.specs.meant.Kept.{view_reading};
+ghost use Rattle.mol_resolve_entities.specs.member_entities.Headings.{superclass_read, tree_in};
+ghost use Rattle.mol_resolve_readings.specs.reads.Reads.{Reads};
+ghost use Rattle.mol_resolve_members.specs.sources.Sources.{file_of, files_of};
+ghost use Rattle.mol_resolve_rules.specs.ReadFiles.{file_reader};
 
 use crate::file_reader::FileReader;
 use jav_tree::TypeName;
 use mol_base::OutOfMemory;
-use mol_meant::ReadType;
-use mol_name_faults::FirstFault;
-use mol_names::read_type;
+use mol_resolve_faults::FirstFault;
+use mol_resolve_names::read_type;
+use mol_resolve_readings::ReadType;
 use mol_values::IType;
 
 impl FileReader<'_> {

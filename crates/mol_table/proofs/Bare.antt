@@ -18,7 +18,7 @@ use Rattle.mol_table.specs.Life.{is_decl_of}
 use Rattle.mol_table.specs.Program.{Program, same_id, living_at, owner_at, params_at}
 use Rattle.mol_table.specs.Tidy.{is_constructor, is_plain, is_living_decl_in, bare_constructor}
 use Rattle.mol_table.specs.Tidying.{bare_in}
-use Rattle.mol_token_forms.specs.TokenForms.{is_empty}
+use Rattle.mol_values.specs.TokenForms.{is_empty}
 use Rattle.mol_values.specs.declared.known.Known.{Known}
 use Rattle.mol_values.specs.declared.known.Known.TheVariants as knowns
 use Rattle.mol_table.proofs.Counts.{none-some, some-same, each_found}

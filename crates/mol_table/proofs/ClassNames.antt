@@ -10,7 +10,7 @@ use Rattle.mol_table.proofs.CellOrder.{cell_cmp-total, cell_cmp-IsAntisymmetric}
 use Rattle.mol_table.specs.Program.{Program, same_id, cell, value_at}
 use Rattle.mol_table.specs.Rules.{IsProgram, is_declared, refers_rightly}
 use Rattle.mol_values.specs.Slots.{has_slot}
-use Rattle.mol_token_forms.specs.TokenForms.{is_name}
+use Rattle.mol_values.specs.TokenForms.{is_name}
 use Rattle.mol_table.specs.Writes.{with_value}
 use Rattle.mol_values.specs.declared.cell.Cell.{Cell}
 use Rattle.mol_values.specs.declared.cell.Slot.{Slot}

@@ -6,7 +6,7 @@ use Rattle.mol_table.specs.Forms.{differ}
 use Rattle.mol_table.specs.Mentions.{a_param}
 use Rattle.mol_table.specs.Rules.{fills}
 use Rattle.mol_table.specs.Tidy.{arguments_for, filler_expr}
-use Rattle.mol_token_forms.specs.Words.{are_words}
+use Rattle.mol_values.specs.Words.{are_words}
 use Rattle.mol_values.specs.declared.iexpr.Argument.{Argument}
 use Rattle.mol_values.specs.declared.iexpr.IExpr.{IExpr}
 use Rattle.mol_values.specs.declared.iexpr.IExpr.TheVariants as exprs

@@ -14,7 +14,7 @@ use Rattle.unicode_ident.proofs.IdentLemmas.{is_xid_start-ascii}
 use Rattle.mol_base.specs.declared.token_kind.TokenKind.TheVariants.{Symbol}
 use Rattle.mol_base.specs.declared.lexical.front.Front.TheVariants.{Taken, Wrong}
 use Rattle.mol_base.specs.declared.lexical.front.Flaw.TheVariants.{BadChar}
-use Rattle.mol_token_forms.specs.TokenForms.{is_literal_kind, is_literal, is_number, is_filler}
+use Rattle.mol_values.specs.TokenForms.{is_literal_kind, is_literal, is_number, is_filler}
 
 -- no identifier begins with `-`
 no-part : is_start 45 ≡ false

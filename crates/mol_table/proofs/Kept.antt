@@ -14,7 +14,7 @@ use Rattle.mol_table.specs.Mentions.{Mention, a_constructor, named, joined, expr
 use Rattle.mol_table.specs.Program.{same_id}
 use Rattle.mol_table.specs.Tidy as tidy
 use Rattle.mol_table.specs.Tidy.{value_of, argument_for, arguments_for, filler_expr, creation, tidy_expr, tidy_argument}
-use Rattle.mol_token_forms.specs.TokenForms.{is_literal, is_filler}
+use Rattle.mol_values.specs.TokenForms.{is_literal, is_filler}
 use Rattle.mol_values.specs.declared.iexpr.Argument.{Argument, fold-Argument}
 use Rattle.mol_values.specs.declared.iexpr.IExpr.{IExpr}
 use Rattle.mol_values.specs.declared.iexpr.IExpr.TheOpen.{IExpr-F}

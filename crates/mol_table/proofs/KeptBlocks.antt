@@ -13,7 +13,7 @@ use Rattle.mol_table.specs.StatementForms as forms
 use Rattle.mol_table.specs.StatementForms.{StatementShape, BlockShape, ordinary, super_first, is_maybe, is_declarator, is_let, is_start, are_formed, has_super, block_shape, is_body}
 use Rattle.mol_table.specs.Tidy as tidy
 use Rattle.mol_table.specs.Tidy.{arguments_for, tidy_expr, tidy_argument, tidy_declarator, tidy_let, tidy_start, tidy_else, tidy_node, tidy_block, tidy_if, tidy_statement, tidy_body}
-use Rattle.mol_token_forms.specs.TokenForms.{are_comments}
+use Rattle.mol_values.specs.TokenForms.{are_comments}
 use Rattle.mol_values.specs.declared.iblock.IBlock.{IBlock, fold-IBlock}
 use Rattle.mol_values.specs.declared.iblock.IBody.{IBody}
 use Rattle.mol_values.specs.declared.iblock.IDeclarator.{IDeclarator}

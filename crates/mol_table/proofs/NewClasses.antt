@@ -19,7 +19,7 @@ use Rattle.mol_table.proofs.CellOrder.{cell_cmp-total, cell_cmp-IsAntisymmetric}
 use Rattle.mol_table.specs.Program.{Program, same_id, cell, value_at}
 use Rattle.mol_table.specs.Rules.{IsProgram, fills, is_declared, refers_rightly}
 use Rattle.mol_values.specs.Slots.{has_slot, slot_of, same_slot}
-use Rattle.mol_token_forms.specs.TokenForms.{is_name, is_dotted}
+use Rattle.mol_values.specs.TokenForms.{is_name, is_dotted}
 use Rattle.mol_table.specs.Writes.{AreOfKind, AreNew, with_entity, with_entities}
 use Rattle.mol_values.specs.declared.cell.Cell.{Cell}
 use Rattle.mol_values.specs.declared.cell.Slot.{Slot}

@@ -13,7 +13,7 @@ use Rattle.mol_values.specs.Renamed as rename
 use Rattle.mol_values.specs.Renamed.{rename_type, rename_expr, rename_argument, rename_declarator, rename_let, rename_start, rename_else, rename_node, rename_block, rename_if, rename_statement, rename_body}
 use Rattle.mol_table.specs.StatementForms as forms
 use Rattle.mol_table.specs.StatementForms.{StatementShape, BlockShape, ordinary, super_first, is_maybe, is_declarator, is_let, is_start, block_shape, is_body}
-use Rattle.mol_token_forms.specs.TokenForms.{are_comments, is_name}
+use Rattle.mol_values.specs.TokenForms.{are_comments, is_name}
 use Rattle.mol_values.specs.declared.iblock.IBlock.{IBlock}
 use Rattle.mol_values.specs.declared.iblock.IBody.{IBody}
 use Rattle.mol_values.specs.declared.iblock.IDeclarator.{IDeclarator}

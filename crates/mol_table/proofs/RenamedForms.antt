@@ -10,7 +10,7 @@ use Rattle.mol_table.specs.Mentions.{Mention, a_listed_param, named, type_mentio
 use Rattle.mol_table.specs.Program.{Program, same_id, params_in}
 use Rattle.mol_values.specs.Renamed.{rename_type, rename_expr, rename_param, rename_value, rename_known}
 use Rattle.mol_table.specs.Renumber.{numbered, renumber}
-use Rattle.mol_token_forms.specs.TokenForms.{is_name, is_filler}
+use Rattle.mol_values.specs.TokenForms.{is_name, is_filler}
 use Rattle.mol_values.specs.declared.itype.IType.{IType}
 use Rattle.mol_values.specs.declared.kind.MethodKind.TheVariants.{Instance, Static, Constructor}
 use Rattle.mol_values.specs.declared.known.Known.{Known}

@@ -15,7 +15,7 @@ use Rattle.mol_table.specs.Renumber.{numbered, renumber}
 use Rattle.mol_table.specs.Rules.{fills, is_declared}
 use Rattle.mol_values.specs.Slots.{slot_of, has_slot}
 use Rattle.mol_table.specs.TypeForms.{is_class}
-use Rattle.mol_token_forms.specs.Words.{is_declaration}
+use Rattle.mol_values.specs.Words.{is_declaration}
 use Rattle.mol_values.specs.declared.cell.Cell.{Cell}
 use Rattle.mol_values.specs.declared.cell.Slot.{Slot}
 use Rattle.mol_values.specs.declared.iblock.IBody.{IBody}

@@ -16,7 +16,7 @@ use Rattle.mol_values.specs.Order.{cell_cmp}
 use Rattle.mol_table.specs.Program.{Program, cell}
 use Rattle.mol_table.specs.Rules.{IsProgram, fills, is_declared}
 use Rattle.mol_values.specs.Slots.{has_slot}
-use Rattle.mol_token_forms.specs.Words.{is_declaration}
+use Rattle.mol_values.specs.Words.{is_declaration}
 use Rattle.mol_values.specs.declared.cell.Slot.TheVariants as slots
 use Rattle.mol_values.specs.declared.known.Known.TheVariants as knowns
 use Rattle.mol_values.specs.declared.kind.MethodKind.TheVariants.{Instance, Static, Constructor}

@@ -10,7 +10,7 @@ use Rattle.mol_table.specs.Life.{is_decl_of}
 use Rattle.mol_table.specs.Program.{Program, same_id, cell, params_in, params_at, owner_in, owner_at, value_at, living_at}
 use Rattle.mol_table.specs.Rules.{IsProgram}
 use Rattle.mol_table.specs.Tidy.{tidy_value, is_constructor, is_bare, bare_constructor, tidied, tidy}
-use Rattle.mol_token_forms.specs.TokenForms.{is_empty}
+use Rattle.mol_values.specs.TokenForms.{is_empty}
 use Rattle.mol_values.specs.declared.cell.Slot.TheVariants as slots
 use Rattle.mol_values.specs.declared.known.Known.{Known}
 use Rattle.mol_values.specs.declared.param.Param.{Param}

@@ -22,7 +22,7 @@ use Rattle.mol_values.specs.Slots.{slot_of, same_slot}
 use Rattle.mol_table.specs.StatementForms.{is_body}
 use Rattle.mol_table.specs.Tidy.{tidy_body, tidy_expr, tidy_value, is_constructor, is_bare, bare_constructor, tidied, tidy}
 use Rattle.mol_table.specs.Tidying.{bare_in, entry_by}
-use Rattle.mol_token_forms.specs.TokenForms.{is_filler}
+use Rattle.mol_values.specs.TokenForms.{is_filler}
 use Rattle.mol_values.specs.declared.cell.Cell.{Cell}
 use Rattle.mol_values.specs.declared.cell.Slot.{Slot}
 use Rattle.mol_values.specs.declared.cell.Slot.TheVariants as slots
@@ -35,7 +35,7 @@ use Rattle.mol_table.specs.declared.maps.Maps.{Maps}
 use Rattle.mol_values.specs.declared.param.Param.{Param}
 use Rattle.mol_values.specs.declared.value.Value.{Value}
 use Rattle.mol_values.specs.declared.value.Value.TheVariants as values
-use Rattle.mol_token_forms.specs.Words.{is_declaration}
+use Rattle.mol_values.specs.Words.{is_declaration}
 use Rattle.mol_values.specs.declared.words.Words.{Words}
 use Rattle.mol_table.proofs.Changing.{owner-known}
 use Rattle.mol_table.proofs.Counts.{none-some, some-same, count-same}

@@ -3,7 +3,7 @@ use Rattle.std.specs.Prelude.{ℕ, ◌+◌, Bool, true, false, ◌&&◌, ◌||�
 use Rattle.std.specs.List.{list_all}
 use Rattle.mol_base.specs.Limits.{max_items}
 use Rattle.mol_base.specs.Operators.{binary_level, is_prefix, is_step, is_assignment}
-use Rattle.mol_token_forms.specs.TokenForms.{is_name, is_dotted, is_literal}
+use Rattle.mol_values.specs.TokenForms.{is_name, is_dotted, is_literal}
 use Rattle.mol_table.specs.TypeForms.{is_type, is_array, is_outside_class}
 use Rattle.mol_values.specs.declared.iexpr.IExpr.{IExpr, fold-IExpr}
 use Rattle.mol_values.specs.declared.iexpr.IExpr.TheOpen.{IExpr-F, Argument-F}

@@ -9,9 +9,9 @@ use Rattle.mol_table.specs.ExpressionForms.{is_initial}
 use Rattle.mol_table.specs.Program.{same_id}
 use Rattle.mol_values.specs.Slots.{slot_of, same_slot}
 use Rattle.mol_table.specs.StatementForms.{is_body}
-use Rattle.mol_token_forms.specs.TokenForms.{is_name, is_dotted, is_filler, are_comments, is_empty}
+use Rattle.mol_values.specs.TokenForms.{is_name, is_dotted, is_filler, are_comments, is_empty}
 use Rattle.mol_table.specs.TypeForms.{is_type, is_void, is_result, is_class}
-use Rattle.mol_token_forms.specs.Words.{are_words}
+use Rattle.mol_values.specs.Words.{are_words}
 use Rattle.mol_values.specs.declared.cell.Slot.{Slot}
 use Rattle.mol_values.specs.declared.kind.MethodKind.TheVariants.{Constructor}
 use Rattle.mol_values.specs.declared.known.Known.{Known}

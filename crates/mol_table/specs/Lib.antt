@@ -1,5 +1,5 @@
-pub use Rattle.mol_token_forms.specs.TokenForms
-pub use Rattle.mol_token_forms.specs.Words
+pub use Rattle.mol_values.specs.TokenForms
+pub use Rattle.mol_values.specs.Words
 pub mod Agreement
 pub mod Ancestors
 pub mod Bare

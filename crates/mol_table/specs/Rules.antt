@@ -7,7 +7,7 @@ use Rattle.mol_table.specs.Forms.{has_form}
 use Rattle.mol_table.specs.Mentions.{Role, Mention, a_class, a_field, a_method, a_called_method, a_static_method, a_constructor, a_param, a_listed_param, mentions}
 use Rattle.mol_table.specs.Program.{Program, Knowns, same_id, value_at}
 use Rattle.mol_values.specs.Slots.{has_slot}
-use Rattle.mol_token_forms.specs.Words.{is_declaration}
+use Rattle.mol_values.specs.Words.{is_declaration}
 use Rattle.mol_values.specs.declared.cell.Slot.{Slot}
 use Rattle.mol_values.specs.declared.cell.Slot.TheVariants as slots
 use Rattle.mol_values.specs.declared.kind.MethodKind.{MethodKind}

@@ -3,7 +3,7 @@ use Rattle.std.specs.Prelude.{Bool, true, false, ◌&&◌, not, nat_le, List, le
 use Rattle.std.specs.List.{list_all, list_any}
 use Rattle.std.specs.Option.{option_map_or}
 use Rattle.mol_table.specs.ExpressionForms.{is_initial, is_expression, is_statement, shape_of, are_arguments}
-use Rattle.mol_token_forms.specs.TokenForms.{is_name, are_comments}
+use Rattle.mol_values.specs.TokenForms.{is_name, are_comments}
 use Rattle.mol_table.specs.TypeForms.{is_type}
 use Rattle.mol_values.specs.declared.iblock.IBlock.{IBlock, fold-IBlock}
 use Rattle.mol_values.specs.declared.iblock.IBody.{IBody}

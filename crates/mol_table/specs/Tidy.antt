@@ -9,7 +9,7 @@ use Rattle.mol_base.specs.declared.ident.Id.{Id}
 use Rattle.mol_table.specs.Life.{is_decl_of}
 use Rattle.mol_table.specs.Mentions.{Mention, mentions}
 use Rattle.mol_table.specs.Program.{Program, same_id, living_at, owner_at, params_at}
-use Rattle.mol_token_forms.specs.TokenForms.{is_empty}
+use Rattle.mol_values.specs.TokenForms.{is_empty}
 use Rattle.mol_values.specs.declared.cell.Cell.{Cell}
 use Rattle.mol_values.specs.Blocks.{block_of, branch_of}
 use Rattle.mol_values.specs.declared.iblock.IBlock.{IBlock, fold-IBlock}

@@ -1,7 +1,7 @@
 -- The types in values.
 use Rattle.std.specs.Prelude.{ℕ, ◌+◌, Bool, true, false, ◌&&◌, ◌||◌, nat_le}
 use Rattle.mol_base.specs.Limits.{max_items}
-use Rattle.mol_token_forms.specs.TokenForms.{is_dotted, is_empty}
+use Rattle.mol_values.specs.TokenForms.{is_dotted, is_empty}
 use Rattle.mol_values.specs.declared.itype.IType.{IType, fold-IType}
 use Rattle.mol_values.specs.declared.itype.IType.TheOpen.{IType-F}
 

@@ -1,6 +1,6 @@
 //! Entities that are to be added.
-use crate::{Kind, Value};
 use mol_base::{Id, List};
+use mol_values::{Kind, Value};
 
 /// An entity with all that its cells are to hold, the values in the order of the slots.
 #[derive(Drop)]

@@ -9,9 +9,9 @@ mod table;
 mod tidy;
 
 pub use entity::NewEntity;
-pub use mol_token_forms::{is_comment, is_dotted, is_literal, is_name};
 pub use mol_values::{
     Argument, Cell, IBlock, IBody, IDeclarator, IElse, IExpr, IForStart, IIf, ILet, IStmt,
-    IStmtNode, IType, Kind, Known, MethodKind, Notes, Param, Slot, Value, Words,
+    IStmtNode, IType, Kind, Known, MethodKind, Notes, Param, Slot, Value, Words, is_comment,
+    is_dotted, is_literal, is_name,
 };
 pub use table::Table;

@@ -17,10 +17,11 @@ mod copy;
 mod first_cells;
 mod tidied;
 
+use crate::NewEntity;
 use crate::maps::first_cells::place_in_base;
-use crate::{Cell, Kind, Known, NewEntity, Param, Slot, Value};
 use indexmap::IndexMap;
 use mol_base::{Id, OutOfMemory};
+use mol_values::{Cell, Kind, Known, Param, Slot, Value};
 
 /// A value for each cell, what each identity is known as, and how many declarations of each method live.
 #[derive(Drop)]

@@ -14,10 +14,11 @@ ghost use Rattle.mol_table.specs.Sameness.{Same, IsSameness};
 ghost use Rattle.mol_table.specs.Tidy.{tidy};
 ghost use Rattle.mol_table.specs.Writes.{with_value, with_entities, AreNew};
 
+use crate::NewEntity;
 use crate::maps::Maps;
-use crate::{Cell, Kind, Known, NewEntity, Param, Slot, Value};
 use indexmap::IndexMap;
 use mol_base::{Id, List, OutOfMemory};
+use mol_values::{Cell, Kind, Known, Param, Slot, Value};
 use std::alloc::Global;
 use std::marker::Model;
 

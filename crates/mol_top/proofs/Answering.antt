@@ -2,7 +2,7 @@
 use Rattle.std.proofs.Common.{◌≡◌, ℕ, Option, sym, ◌∙◌, ap, refl, subst, inl, inr, List, take, Bool, true, false}
 use Rattle.std.specs.Prelude.{None, Some}
 use Rattle.mol_outside.specs.Contents.{Contents, appended, elsewhere}
-use Rattle.mol_files.specs.Files.{file_pairs}
+use Rattle.mol_base.specs.Files.{file_pairs}
 use Rattle.mol_top.specs.Command.{Command, paths_of}
 use Rattle.mol_top.specs.Outcome.{Refuses, HasCause, ByNames, HasLine, Leaves, IsPrefix, WasRefusing, IsSameInEitherOrder}
 use Rattle.mol_top.specs.Output.{written_all}

@@ -3,7 +3,7 @@ use Rattle.std.proofs.Common.{◌≡◌, ◌⊎◌, inl, inr, ℕ, Bool, true, f
 use Rattle.std.specs.Prelude.{Some}
 use Rattle.std.specs.Option.{ForSome}
 use Rattle.mol_base.specs.declared.file.File.{File}
-use Rattle.mol_files.specs.Files.{FilePair, file_pairs}
+use Rattle.mol_base.specs.Files.{FilePair, file_pairs}
 use Rattle.mol_outside.specs.Contents.{Contents}
 use Rattle.mol_program.specs.Programs.{IsReadAs}
 use Rattle.mol_table.specs.Program.{Program}

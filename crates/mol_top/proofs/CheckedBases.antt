@@ -1,7 +1,7 @@
 -- What `check` makes of a base.
 use Rattle.std.proofs.Common.{◌≡◌, ℕ, refl, List, length, ap}
 use Rattle.std.specs.Option.{ForSome}
-use Rattle.mol_spelling.specs.Clean.{Clean}
+use Rattle.mol_spell_rules.specs.Clean.{Clean}
 use Rattle.mol_table.specs.Rules.{IsProgram as KeepsRules}
 use Rattle.mol_top.specs.Checking.{check_outcome}
 use Rattle.mol_top.specs.CleanBases.{IsReadOf}

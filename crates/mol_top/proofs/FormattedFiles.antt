@@ -3,7 +3,7 @@ use Rattle.std.proofs.Common.{◌≡◌, ◌⊎◌, inl, inr, ℕ, refl, sym, �
 use Rattle.std.specs.Prelude.{None, Some}
 use Rattle.std.specs.Option.{ForSome}
 use Rattle.mol_outside.specs.Contents.{Contents}
-use Rattle.mol_spelling.specs.Clean.{Clean}
+use Rattle.mol_spell_rules.specs.Clean.{Clean}
 use Rattle.mol_table.specs.Program.{Program}
 use Rattle.mol_table.specs.Rules.{IsProgram as KeepsRules}
 use Rattle.mol_top.proofs.BaseStops.{base_stopped, program_stopped}

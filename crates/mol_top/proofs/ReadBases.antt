@@ -1,7 +1,7 @@
 -- What the reading of a base answers: a program or a refusal, and what these carry.
 use Rattle.std.proofs.Common.{◌≡◌, ◌⊎◌, inl, inr, ℕ, List, length, sym, ◌∙◌, ap, subst}
 use Rattle.mol_base.specs.declared.file.File.{File}
-use Rattle.mol_files.specs.Files.{FilePair, file_pairs}
+use Rattle.mol_base.specs.Files.{FilePair, file_pairs}
 use Rattle.mol_outside.specs.Contents.{Contents}
 use Rattle.mol_program.specs.Programs.{IsReadAs, Refuses}
 use Rattle.mol_program.specs.declared.fault.ReadFault.{ReadFault}

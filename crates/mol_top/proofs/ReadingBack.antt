@@ -4,10 +4,10 @@ use Rattle.std.specs.Prelude.{None, Some, All, Option, option_map, find, nat_lt}
 use Rattle.std.specs.Option.{option_or}
 use Rattle.std.proofs.lemmas.Bool.Decides.{nat_tests}
 use Rattle.std.proofs.lemmas.List.Elements.{All-cons, All-head, All-nil, All-tail}
-use Rattle.jav_layout.proofs.Back.{units_parse_back}
-use Rattle.jav_layout.specs.ParsesBack.{UnitParsesBack}
-use Rattle.jav_places.proofs.Placeless.{units_are_as_high, units_print_alike}
-use Rattle.jav_rules.specs.BadToken.{most_height, most_items}
+use Rattle.jav_print_laws.proofs.layout_lemmas.Back.{units_parse_back}
+use Rattle.jav_print_laws.specs.layout.ParsesBack.{UnitParsesBack}
+use Rattle.jav_print_laws.proofs.places_lemmas.Placeless.{units_are_as_high, units_print_alike}
+use Rattle.jav_parse_unit.specs.BadToken.{most_height, most_items}
 use Rattle.jav_tree.proofs.PrintedUnits.{prints_as_printed, settled_when_printed, unit_without_text}
 use Rattle.jav_tree.specs.Height.{unit_height}
 use Rattle.jav_tree.specs.Layout.{unit_text}
@@ -17,10 +17,10 @@ use Rattle.jav_tree.specs.WithParens.{unit_with_parens}
 use Rattle.mol_base.specs.Limits.{most}
 use Rattle.mol_base.specs.declared.limit.Which.TheVariants.{Height}
 use Rattle.mol_outside.specs.Contents.{Contents}
-use Rattle.mol_printable.proofs.Files.{files_printable}
-use Rattle.mol_printable.specs.PrintableFiles.{IsPrintableFile}
-use Rattle.mol_source.specs.Sources.{IsUnitOf}
-use Rattle.mol_spelling.specs.SpelledUnits.{SpelledUnit, spelling}
+use Rattle.mol_spell_laws.proofs.Files.{files_printable}
+use Rattle.mol_spell_laws.specs.PrintableFiles.{IsPrintableFile}
+use Rattle.jav_source.specs.Sources.{IsUnitOf}
+use Rattle.mol_spell_rules.specs.SpelledUnits.{SpelledUnit, spelling}
 use Rattle.mol_top.specs.Command.{Command}
 use Rattle.mol_top.specs.Formatting.{printed_height, program_heights, program_texts}
 use Rattle.mol_top.specs.Output.{long_text, long_texts, tall_tree, texts_refusal}

@@ -12,7 +12,7 @@ use Rattle.mol_base.specs.Limits.{most}
 use Rattle.mol_base.specs.declared.file.File.{File}
 use Rattle.mol_base.specs.declared.limit.Which.TheVariants.{Files, FileBytes, SourceBytes}
 use Rattle.mol_outside.specs.Contents.{Contents}
-use Rattle.mol_files.specs.Files.{AreSmall, file_pair, file_pairs, file_paths, FilePair}
+use Rattle.mol_base.specs.Files.{AreSmall, file_pair, file_pairs, file_paths, FilePair}
 use Rattle.mol_top.specs.Files.{base_paths, bytes_at, files_at}
 use Rattle.mol_top.specs.Command.{joined}
 use Rattle.mol_top.specs.Refusals.{absent_input, files_refusal, reading_refusal, size_refusal}

@@ -10,7 +10,7 @@ use Rattle.std.proofs.lemmas.List.Kept.{IsStrictlySortedBy-filter}
 use Rattle.std.proofs.lemmas.Map.Keys.{Less-from_sorted}
 use Rattle.std.proofs.lemmas.Option.{get_or_from_slice_get, slice_get-map, slice_get_within}
 use Rattle.mol_base.specs.declared.file.File.{File}
-use Rattle.mol_files.specs.Files.{ArePathsApart, FilePair, file_pairs, file_paths}
+use Rattle.mol_base.specs.Files.{ArePathsApart, FilePair, file_pairs, file_paths}
 
 module _ (paths : List (List ℕ)) (sorted : IsStrictlySortedBy (slice_cmp nat_cmp) paths) where
   -- a path is not before itself

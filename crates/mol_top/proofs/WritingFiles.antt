@@ -4,7 +4,7 @@ use Rattle.std.specs.Prelude.{Some, slice_get, option_map}
 use Rattle.std.proofs.lemmas.List.{take-map}
 use Rattle.std.proofs.lemmas.Option.{same_Some, slice_get-map, slice_get-get_or}
 use Rattle.mol_base.specs.declared.file.File.{File}
-use Rattle.mol_files.specs.Files.{file_pair, file_pairs}
+use Rattle.mol_base.specs.Files.{file_pair, file_pairs}
 use Rattle.mol_top.specs.Output.{AreNamed, failure_of, written_all}
 use Rattle.mol_top.specs.Outside.{State, Store}
 use Rattle.mol_top.specs.Steps.{IsCutAt, IsPutOrCut, StopsAt}

@@ -2,13 +2,13 @@
 use Rattle.std.specs.Prelude.{◌≡◌, ℕ, List, None, Some}
 use Rattle.mol_base.specs.declared.file.Place.{Place}
 use Rattle.mol_outside.specs.Contents.{Contents}
-use Rattle.mol_fault.specs.Kept.{kept_fault}
-use Rattle.mol_fault.specs.declared.fault.Fault.{Fault}
+use Rattle.mol_faults_rules.specs.Kept.{kept_fault}
+use Rattle.mol_faults_rules.specs.declared.fault.Fault.{Fault}
 use Rattle.mol_faults.specs.First.{IsFirst}
-use Rattle.mol_files.specs.Files.{FilePair}
+use Rattle.mol_base.specs.Files.{FilePair}
 use Rattle.mol_program.specs.Programs.{AreRefused, IsReadAs}
 use Rattle.mol_program.specs.declared.fault.ProgramFault.{ProgramFault}
-use Rattle.mol_spelling.specs.Clean.{Clean}
+use Rattle.mol_spell_rules.specs.Clean.{Clean}
 use Rattle.mol_table.specs.Program.{Program}
 use Rattle.mol_table.specs.Rules.{IsProgram as KeepsRules}
 use Rattle.mol_top.specs.Files.{base_files}

@@ -1,7 +1,7 @@
 -- What is read of a base that is a program, and what stops the reading.
 use Rattle.std.specs.Prelude.{◌≡◌, ℕ, Bool, true, false, List, length}
 use Rattle.std.specs.Option.{ForSome}
-use Rattle.mol_files.specs.Files.{FilePair}
+use Rattle.mol_base.specs.Files.{FilePair}
 use Rattle.mol_outside.specs.Contents.{Contents}
 use Rattle.mol_program.specs.Programs.{IsReadAs}
 use Rattle.mol_top.specs.Bases.{BaseRefuses, IsBaseOf}

@@ -2,11 +2,11 @@
 use Rattle.std.specs.Prelude.{◌≡◌, ℕ, List, length, map, Option, None, Some}
 use Rattle.std.specs.Option.{option_or}
 use Rattle.jav_tree.specs.WithParens.{unit_printed_height}
-use Rattle.mol_files.specs.Files.{FilePair}
+use Rattle.mol_base.specs.Files.{FilePair}
 use Rattle.mol_outside.specs.Contents.{Contents}
-use Rattle.mol_spell.specs.ReadAs.{SourceText}
-use Rattle.mol_spelling.specs.PrintedFiles.{printed_files}
-use Rattle.mol_spelling.specs.SpelledUnits.{SpelledUnit, spelling}
+use Rattle.mol_resolve_rules.specs.ReadAs.{SourceText}
+use Rattle.mol_spell_rules.specs.PrintedFiles.{printed_files}
+use Rattle.mol_spell_rules.specs.SpelledUnits.{SpelledUnit, spelling}
 use Rattle.mol_table.specs.Program.{Program}
 use Rattle.mol_top.specs.Bases.{BaseRefuses, IsCleanBase}
 use Rattle.mol_top.specs.Command.{FmtWords}

@@ -6,7 +6,7 @@ use Rattle.mol_base.specs.Limits.{most}
 use Rattle.mol_base.specs.declared.file.File.{File}
 use Rattle.mol_base.specs.declared.limit.Which.TheVariants.{FileBytes, SourceBytes, Height}
 use Rattle.mol_outside.specs.Contents.{Contents, written_at}
-use Rattle.mol_files.specs.Files.{file_pairs, FilePair}
+use Rattle.mol_base.specs.Files.{file_pairs, FilePair}
 use Rattle.mol_top.specs.Command.{joined}
 use Rattle.mol_top.specs.Report.{refusal_line}
 use Rattle.mol_top.specs.declared.output.Work.{Work}

@@ -1,7 +1,7 @@
 -- What `fmt` makes of a program that was read, and what stops it.
 use Rattle.std.specs.Prelude.{◌≡◌, ◌⊎◌, ℕ, List}
 use Rattle.std.specs.Option.{ForSome}
-use Rattle.mol_spelling.specs.Clean.{Clean}
+use Rattle.mol_spell_rules.specs.Clean.{Clean}
 use Rattle.mol_table.specs.Program.{Program}
 use Rattle.mol_top.specs.Answers.{store_status}
 use Rattle.mol_top.specs.Carried.{Carries, IsInside, NoPath}

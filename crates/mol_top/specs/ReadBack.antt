@@ -6,8 +6,8 @@ use Rattle.jav_tree.specs.Parens.{unit_without_parens}
 use Rattle.jav_tree.specs.Places.{SameUnit}
 use Rattle.jav_tree.specs.WithParens.{unit_with_parens}
 use Rattle.mol_outside.specs.Contents.{Contents}
-use Rattle.mol_source.specs.Sources.{IsSettled, IsUnitOf}
-use Rattle.mol_spelling.specs.SpelledUnits.{SpelledUnit, spelling}
+use Rattle.jav_source.specs.Sources.{IsSettled, IsUnitOf}
+use Rattle.mol_spell_rules.specs.SpelledUnits.{SpelledUnit, spelling}
 use Rattle.mol_table.specs.Program.{Program}
 use Rattle.mol_top.specs.Bases.{IsCleanBase}
 use Rattle.mol_top.specs.Command.{Command, FmtWords}

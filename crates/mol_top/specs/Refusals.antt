@@ -6,7 +6,7 @@ use Rattle.mol_base.specs.Limits.{most}
 use Rattle.mol_base.specs.declared.file.File.{File}
 use Rattle.mol_base.specs.declared.limit.Which.TheVariants.{Files, FileBytes, SourceBytes}
 use Rattle.mol_outside.specs.Contents.{Contents, paths_below}
-use Rattle.mol_files.specs.Files.{file_pairs}
+use Rattle.mol_base.specs.Files.{file_pairs}
 use Rattle.mol_top.specs.Command.{joined}
 use Rattle.mol_top.specs.Files.{base_files, base_paths, bytes_at, files_at}
 use Rattle.mol_top.specs.declared.status.Status.{Status}

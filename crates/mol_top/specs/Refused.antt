@@ -1,6 +1,6 @@
 -- Refusals of files and programs, each with its line.
 use Rattle.std.specs.Prelude.{◌≡◌, ◌⊎◌, List}
-use Rattle.mol_files.specs.Files.{FilePair}
+use Rattle.mol_base.specs.Files.{FilePair}
 use Rattle.mol_table.specs.Program.{Program}
 use Rattle.mol_top.specs.Bases.{RefuseFiles, RefuseProgram}
 use Rattle.mol_top.specs.Report.{line_bytes, refusal_line}

@@ -1,8 +1,8 @@
 -- What a run prints.
 use Rattle.std.specs.Prelude.{ℕ, Bool, true, false, List, [], ◌∷◌, ◌++◌, codes, Option, None, Some}
 use Rattle.std.specs.Fmt.{decimal}
-use Rattle.jav_rules.specs.Features.{name as feature_name}
-use Rattle.jav_rules.specs.declared.feature.Feature.{Feature}
+use Rattle.jav_parse_unit.specs.Features.{name as feature_name}
+use Rattle.jav_parse_unit.specs.declared.feature.Feature.{Feature}
 use Rattle.mol_base.specs.declared.file.Place.{Place}
 use Rattle.mol_base.specs.declared.limit.Which.{Which}
 use Rattle.mol_base.specs.declared.limit.Which.TheVariants as limits

@@ -4,7 +4,7 @@ use Rattle.std.specs.Option.{ForSome}
 use Rattle.std.specs.List.{Contains}
 use Rattle.mol_base.specs.declared.file.File.{File}
 use Rattle.mol_outside.specs.Contents.{Contents, HasRisen, appended, elsewhere}
-use Rattle.mol_files.specs.Files.{file_pairs, FilePair}
+use Rattle.mol_base.specs.Files.{file_pairs, FilePair}
 use Rattle.mol_top.specs.Answers.{store_status}
 use Rattle.mol_top.specs.Command.{NamedPaths, joined}
 use Rattle.mol_top.specs.Files.{base_paths}

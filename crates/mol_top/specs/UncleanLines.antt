@@ -1,6 +1,6 @@
 -- The lines of bases that are programs and not clean. They name addresses of the base.
 use Rattle.std.specs.Prelude.{◌≡◌, ℕ, List}
-use Rattle.mol_fault.specs.Kept.{kept_fault}
+use Rattle.mol_faults_rules.specs.Kept.{kept_fault}
 use Rattle.mol_outside.specs.Contents.{Contents}
 use Rattle.mol_report.specs.FaultText.{fault_text}
 use Rattle.mol_table.specs.Program.{Program}

@@ -1,11 +1,11 @@
 //! Bases that are programs, and whether these are clean.
 ghost use Rattle.std.specs.Prelude.{◌≡◌, IfErr, IfOk, OnOk, Some};
 ghost use Rattle.std.specs.Option.{ForSome};
-ghost use Rattle.mol_fault.specs.Kept.{kept_fault};
+ghost use Rattle.mol_faults_rules.specs.Kept.{kept_fault};
 ghost use Rattle.mol_faults.specs.First.{IsFirst};
-ghost use Rattle.mol_files.specs.Files.{ArePathsApart, AreSmall, file_pairs};
+ghost use Rattle.mol_base.specs.Files.{ArePathsApart, AreSmall, file_pairs};
 ghost use Rattle.mol_report.specs.FaultText.{fault_text};
-ghost use Rattle.mol_spelling.specs.Clean.{Clean};
+ghost use Rattle.mol_spell_rules.specs.Clean.{Clean};
 ghost use Rattle.mol_table.specs.Rules.{IsProgram as KeepsRules};
 ghost use Rattle.mol_table.specs.Tidy.{tidy};
 ghost use Rattle.mol_top.specs.CleanBases.{CarriesBase, IsBaseStopped, IsProgramOf, IsReadOf};
@@ -17,11 +17,12 @@ use crate::refusal::{Line, Refusal};
 use crate::status::{BaseFault, Status};
 use crate::store::read_base;
 use mol_base::{File, OutOfMemory, Text};
-use mol_faults::{Fault, first_fault_of_tidied};
+use mol_faults::first_fault_of_tidied;
+use mol_faults_rules::Fault;
 use mol_outside::Files;
 use mol_program::read_program;
-use mol_program_index::ProgramIndex;
 use mol_report::fault_line;
+use mol_spell_names::ProgramIndex;
 use mol_table::Table;
 use std::alloc::Global;
 

@@ -1,10 +1,10 @@
 //! What `fmt` writes: the program of a base as source files in the one layout.
 ghost use Rattle.std.specs.Prelude.{◌≡◌, IfErr, IfOk, map};
 ghost use Rattle.std.specs.Option.{ForSome};
-ghost use Rattle.mol_files.specs.Files.{file_pair, file_pairs};
-ghost use Rattle.mol_spelling.specs.PrintedFiles.{printed_text};
-ghost use Rattle.mol_spelt.specs.Keys.{key_of};
-ghost use Rattle.mol_spelt.specs.Spelt.{spelled_of, unit_at};
+ghost use Rattle.mol_base.specs.Files.{file_pair, file_pairs};
+ghost use Rattle.mol_spell_rules.specs.PrintedFiles.{printed_text};
+ghost use Rattle.mol_spell.specs.keys.Keys.{key_of};
+ghost use Rattle.mol_spell.specs.Spelt.{spelled_of, unit_at};
 ghost use Rattle.mol_table.specs.Tidy.{tidy};
 ghost use Rattle.mol_top.specs.Answers.{store_status};
 ghost use Rattle.mol_top.specs.Carried.{Carries, CarriesOwn, IsInside, NoPath};
@@ -26,12 +26,12 @@ use crate::refusal::Refusal;
 use crate::report::fmt_report;
 use crate::status::Status;
 use crate::store::{check_out, fitted};
-use jav_height::printed_height;
 use jav_print::print;
+use jav_print_height::printed_height;
 use mol_base::{File, OutOfMemory, Text};
 use mol_outside::Files;
-use mol_program_index::ProgramIndex;
-use mol_spelt::{SpeltUnit, UnitKey, file_keys, file_of};
+use mol_spell::{SpeltUnit, UnitKey, file_keys, file_of};
+use mol_spell_names::ProgramIndex;
 use mol_table::Table;
 use std::alloc::Global;
 

@@ -14,7 +14,7 @@ mod running;
 mod status;
 mod store;
 
-pub use mol_faults::{Fault, Target};
+pub use mol_faults_rules::{Fault, Target};
 pub use mol_renames::{Conflict, ConflictKind, Entry, Log, LogCause, Op, RenameClass, ReplayFault};
 pub use report::USAGE;
 pub use running::run;

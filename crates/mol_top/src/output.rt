@@ -1,7 +1,7 @@
 //! Refusing, and carrying out what was made.
 ghost use Rattle.std.specs.Prelude.{List as Items, ◌≡◌, ◌≤◌, ◌<◌, ℕ, length, map, take, slice_get, None, Some, IfOk, IfErr, OnOk, OnErr};
 ghost use Rattle.mol_outside.specs.Contents.{HasRisen, appended};
-ghost use Rattle.mol_files.specs.Files.{file_pairs};
+ghost use Rattle.mol_base.specs.Files.{file_pairs};
 ghost use Rattle.mol_top.specs.Answers.{limit_status};
 ghost use Rattle.mol_top.specs.Carried.{IsAbove};
 ghost use Rattle.mol_top.specs.Output.{IsReady, below as below_of, failure_of, written_all};

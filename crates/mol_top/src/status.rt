@@ -1,6 +1,6 @@
 //! The answers of a run.
 use mol_base::{OutOfMemory, Place, Text, Which};
-use mol_faults::Fault;
+use mol_faults_rules::Fault;
 use mol_program::ProgramFault;
 use mol_renames::LogCause;
 

@@ -7,7 +7,7 @@ ghost use Rattle.std.specs.List.Sorted.{IsStrictlySortedBy};
 ghost use Rattle.std.specs.Ordering.{nat_cmp};
 ghost use Rattle.mol_base.specs.Limits.{most};
 ghost use Rattle.mol_outside.specs.Contents.{paths_below};
-ghost use Rattle.mol_files.specs.Files.{ArePathsApart, AreSmall, file_pairs, file_paths};
+ghost use Rattle.mol_base.specs.Files.{ArePathsApart, AreSmall, file_pairs, file_paths};
 ghost use Rattle.mol_top.specs.Answers.{limit_status, store_status};
 ghost use Rattle.mol_top.specs.Carried.{Carries, CarriesRead, IsAbove, IsInside, IsSourcePath, NoPath};
 ghost use Rattle.mol_top.specs.Command.{joined};

@@ -1,2 +1,3 @@
+pub mod AsciiNames
 pub mod Lookups
 pub mod Ties

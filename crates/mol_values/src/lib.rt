@@ -12,6 +12,7 @@ mod known;
 mod param;
 mod renamed;
 mod same;
+mod token_form;
 mod value;
 mod words;
 
@@ -23,5 +24,6 @@ pub use itype::IType;
 pub use kind::{Kind, MethodKind};
 pub use known::Known;
 pub use param::Param;
+pub use token_form::{is_comment, is_dotted, is_literal, is_name};
 pub use value::Value;
 pub use words::{Notes, Words};

@@ -14,7 +14,7 @@ use Rattle.mol_table.specs.Mentions.{Mention, type_step, type_mentions, body_men
 use Rattle.mol_table.specs.Program.{Program, Knowns, same_id}
 use Rattle.mol_table.specs.Rules.{IsProgram}
 use Rattle.mol_table.specs.TypeForms.{is_void, void_step}
-use Rattle.mol_table.specs.Words.{are_words, is_declaration}
+use Rattle.mol_values.specs.Words.{are_words, is_declaration}
 use Rattle.mol_table.specs.Writes.{AreNew, with_entities}
 use Rattle.mol_values.specs.declared.iblock.IBody.{IBody}
 use Rattle.mol_values.specs.declared.itype.IType.{IType}

@@ -12,7 +12,7 @@ use Rattle.mol_table.specs.Forms.{is_formed, differ}
 use Rattle.mol_table.specs.Mentions.{a_class, a_method, type_mentions, body_mentions}
 use Rattle.mol_table.specs.Program.{Program, Knowns, cell, same_id}
 use Rattle.mol_table.specs.Rules.{IsProgram, fills, is_declared, has_many}
-use Rattle.mol_table.specs.Words.{is_declaration}
+use Rattle.mol_values.specs.Words.{is_declaration}
 use Rattle.mol_table.specs.Writes.{AreNew, AreOfKind, with_entities, with_params, kept_or}
 use Rattle.mol_table.specs.declared.entity.NewEntity.{NewEntity}
 use Rattle.mol_values.specs.declared.cell.Slot.TheVariants as slots

@@ -9,7 +9,7 @@ ghost use Rattle.mol_op.specs.Tests.{IsVerdict, mentions_fault};
 use crate::OpFault;
 use crate::mentions::Seen;
 use crate::mentions::iexpr::{check_all, check_arguments, check_expr, check_maybe, check_type};
-use mol_table::{IBlock, IBody, IDeclarator, IElse, IForStart, IIf, ILet, IStmt, IStmtNode};
+use mol_values::{IBlock, IBody, IDeclarator, IElse, IForStart, IIf, ILet, IStmt, IStmtNode};
 
 /// What the body mentions may be mentioned, where there is one.
 pub(crate) fn check_body(seen: &Seen<'_>, body: &Option<IBody>) -> Result<(), OpFault>

@@ -6,7 +6,7 @@ ghost use Rattle.mol_op.specs.Tests.{IsVerdict, mentions_fault};
 
 use crate::OpFault;
 use crate::mentions::Seen;
-use mol_table::{Argument, IExpr, IType};
+use mol_values::{Argument, IExpr, IType};
 
 /// What the type mentions may be mentioned.
 pub(crate) fn check_type(seen: &Seen<'_>, ty: &IType) -> Result<(), OpFault>

@@ -10,7 +10,8 @@ ghost use Rattle.mol_op.specs.Tests.{IsVerdict, mention_fault};
 
 use crate::OpFault;
 use mol_base::Id;
-use mol_table::{Known, MethodKind, Param, Table};
+use mol_table::Table;
+use mol_values::{Known, MethodKind, Param};
 
 /// What the values of an operation may mention: what the table knows, and what the operation itself adds.
 #[derive(Clone, Copy)]

@@ -11,10 +11,10 @@ ghost use Rattle.mol_base.specs.declared.ident.Id.{Id as Identity};
 ghost use Rattle.mol_table.specs.Identities.{IsAscending, AscendsTo};
 ghost use Rattle.mol_table.specs.Maps.{knowns_of, program_in, IsOrdered};
 
-use crate::Known;
 use crate::maps::Maps;
 use indexmap::IndexMap;
 use mol_base::{Id, OutOfMemory};
+use mol_values::Known;
 
 impl Maps {
     /// Room to sort all that is known after so many identities more.

@@ -7,9 +7,9 @@ ghost use Rattle.mol_table.specs.Tidy.{bare_constructor};
 ghost use Rattle.mol_table.specs.Tidying.{bare_in};
 
 use crate::maps::Maps;
-use crate::{Cell, Known, MethodKind, Slot, Value};
 use indexmap::IndexMap;
 use mol_base::{Id, OutOfMemory};
+use mol_values::{Cell, Known, MethodKind, Slot, Value};
 use std::alloc::Global;
 
 impl Maps {

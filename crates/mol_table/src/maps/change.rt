@@ -6,9 +6,10 @@ ghost use Rattle.mol_table.specs.Program.{params_in};
 ghost use Rattle.mol_table.specs.Rules.{IsProgram};
 ghost use Rattle.mol_table.specs.Writes.{with_value, with_entities, AreNew};
 
+use crate::NewEntity;
 use crate::maps::Maps;
-use crate::{Cell, NewEntity, Value};
 use mol_base::OutOfMemory;
+use mol_values::{Cell, Value};
 
 impl Maps {
     /// Gives a cell that is there another value, where the rules hold afterwards.

@@ -4,9 +4,9 @@ ghost use Rattle.mol_table.specs.Maps.{cells_of, knowns_of, counts_of, program_i
 
 use crate::maps::Maps;
 use crate::maps::first_cells::copy_places;
-use crate::{Cell, Known, Value};
 use indexmap::IndexMap;
 use mol_base::{Id, OutOfMemory};
+use mol_values::{Cell, Known, Value};
 use std::alloc::Global;
 
 impl Maps {

@@ -5,8 +5,8 @@ ghost use Rattle.std.specs.FinMap as map;
 ghost use Rattle.mol_table.specs.Maps.{program_in};
 
 use crate::maps::Maps;
-use crate::{Cell, Slot, Value};
 use mol_base::{Id, Tag};
+use mol_values::{Cell, Slot, Value};
 use std::alloc::Global;
 
 impl Maps {

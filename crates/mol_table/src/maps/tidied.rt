@@ -9,9 +9,9 @@ use crate::maps::Maps;
 use crate::maps::copy::{copy_known, copy_numbers};
 use crate::maps::first_cells::copy_places;
 use crate::tidy::tidy_value;
-use crate::{Cell, Value};
 use indexmap::IndexMap;
 use mol_base::{Id, OutOfMemory};
+use mol_values::{Cell, Value};
 use std::alloc::Global;
 
 impl Maps {

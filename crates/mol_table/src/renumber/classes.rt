@@ -9,9 +9,9 @@ ghost use Rattle.mol_table.specs.Numbering.{IsInOrder};
 ghost use Rattle.mol_table.specs.Renumber.{is_living_class, class_number};
 ghost use Rattle.mol_table.specs.ClassFiles.{file_at, file_of};
 
-use crate::Known;
 use crate::maps::Maps;
 use mol_base::{Id, OutOfMemory};
+use mol_values::Known;
 use std::alloc::Global;
 
 /// A class, by the path of its file.

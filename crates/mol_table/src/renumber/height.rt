@@ -6,9 +6,9 @@ ghost use Rattle.mol_table.specs.Program.{parent_at, class_of_type};
 ghost use Rattle.mol_table.specs.Tops.{IsHeight, AreHeights, IsWay};
 
 use crate::maps::Maps;
-use crate::{Cell, IType, Slot, Value};
 use indexmap::IndexMap;
 use mol_base::{Id, OutOfMemory};
+use mol_values::{Cell, IType, Slot, Value};
 use std::alloc::Global;
 
 /// Classes, each the superclass of the one before, and the height of the next.

@@ -19,9 +19,9 @@ use crate::renumber::Rank;
 use crate::renumber::names::new_names;
 use crate::renumber::top::Top;
 use crate::table::is_among;
-use crate::{Known, Param};
 use indexmap::IndexMap;
 use mol_base::{Id, OutOfMemory};
+use mol_values::{Known, Param};
 use std::alloc::Global;
 
 impl Maps {

@@ -5,8 +5,8 @@ ghost use Rattle.mol_table.specs.Program.{package_at, name_at};
 ghost use Rattle.mol_table.specs.Renumber.{path_at};
 
 use crate::maps::Maps;
-use crate::{Cell, Slot, Value};
 use mol_base::{Id, OutOfMemory};
+use mol_values::{Cell, Slot, Value};
 use std::alloc::Global;
 
 impl Maps {

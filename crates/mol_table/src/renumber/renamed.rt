@@ -6,9 +6,9 @@ ghost use Rattle.mol_table.specs.Renumber.{renumber, MayRenumber};
 
 use crate::maps::Maps;
 use crate::renumber::names::new_names;
-use crate::{Cell, Known, Value};
 use indexmap::IndexMap;
 use mol_base::{Id, OutOfMemory};
+use mol_values::{Cell, Known, Value};
 use std::alloc::Global;
 
 impl Maps {

@@ -5,10 +5,11 @@ ghost use Rattle.mol_table.specs.Tidying.{expr_by, declarator_by, let_by, start_
 
 use crate::maps::Maps;
 use crate::tidy::{tidy_all, tidy_arguments, tidy_expr, tidy_maybe};
-use crate::{IBlock, IBody, IDeclarator, IElse, IExpr, IForStart, IIf, ILet, IStmt, IStmtNode};
 use indexmap::IndexMap;
 use mol_base::{Boxed, Id, List, OutOfMemory};
-use mol_values::copy_texts;
+use mol_values::{
+    IBlock, IBody, IDeclarator, IElse, IExpr, IForStart, IIf, ILet, IStmt, IStmtNode, copy_texts,
+};
 use std::alloc::Global;
 
 /// The body, tidied.

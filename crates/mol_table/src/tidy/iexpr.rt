@@ -6,9 +6,9 @@ ghost use Rattle.mol_table.specs.Tidy.{value_of, arguments_for, filler_expr, cre
 ghost use Rattle.mol_table.specs.Tidying.{bare_in, expr_by, argument_by};
 
 use crate::maps::Maps;
-use crate::{Argument, IExpr, Param};
 use indexmap::IndexMap;
 use mol_base::{Boxed, Id, List, OutOfMemory, Text};
+use mol_values::{Argument, IExpr, Param};
 use std::alloc::Global;
 
 /// The expression, tidied. The index has the constructors that there are.

@@ -4,9 +4,9 @@ ghost use Rattle.mol_table.specs.Tidying.{body_by, value_by};
 
 use crate::maps::Maps;
 use crate::tidy::{tidy_body, tidy_maybe};
-use crate::{IBody, Value};
 use indexmap::IndexMap;
 use mol_base::{Boxed, Id, OutOfMemory};
+use mol_values::{IBody, Value};
 use std::alloc::Global;
 
 /// The body there is, tidied.

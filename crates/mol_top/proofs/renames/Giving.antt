@@ -3,7 +3,7 @@ use Rattle.std.proofs.Common.{◌≡◌, ℕ, List, Option, ◌∙◌, sym, ap, 
 use Rattle.std.specs.Prelude.{None, Some}
 use Rattle.std.specs.List.{filter_map}
 use Rattle.mol_outside.specs.Contents.{Contents}
-use Rattle.mol_files.specs.Files.{FilePair}
+use Rattle.mol_base.specs.Files.{FilePair}
 use Rattle.mol_top.specs.Files.{base_files}
 use Rattle.mol_renames.specs.BaseProgram.{base_program}
 use Rattle.mol_renames.specs.ClassFiles.{address_in}

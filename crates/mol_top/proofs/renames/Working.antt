@@ -5,7 +5,7 @@ use Rattle.std.specs.List.{All}
 use Rattle.std.proofs.lemmas.List.{length-map, get_or-map, map_push}
 use Rattle.std.proofs.lemmas.List.Elements.{All-append, All-map}
 use Rattle.mol_base.specs.declared.file.File.{File}
-use Rattle.mol_files.specs.Files.{file_pair, file_pairs, FilePair}
+use Rattle.mol_base.specs.Files.{file_pair, file_pairs, FilePair}
 use Rattle.mol_top.specs.Command.{joined}
 use Rattle.mol_renames.specs.LogText.{log_text}
 use Rattle.mol_top.specs.Output.{AreNamed, below}

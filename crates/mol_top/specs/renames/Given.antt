@@ -4,7 +4,7 @@ use Rattle.std.specs.List.{filter_map}
 use Rattle.std.specs.Option.{ForSome, option_or, option_and_then}
 use Rattle.std.specs.FinMap.{get}
 use Rattle.mol_outside.specs.Contents.{Contents}
-use Rattle.mol_files.specs.Files.{FilePair}
+use Rattle.mol_base.specs.Files.{FilePair}
 use Rattle.mol_top.specs.Answers.{store_status}
 use Rattle.mol_top.specs.Outside.{Store}
 use Rattle.mol_top.specs.Steps.{IsNamed, Only, Stops}

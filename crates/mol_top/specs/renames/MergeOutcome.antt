@@ -1,7 +1,7 @@
 -- What a merge of two logs comes to.
 use Rattle.std.specs.Prelude.{◌≡◌, ℕ, List, [], ◌∷◌, ◌++◌, codes, length, Option, None, Some}
 use Rattle.mol_outside.specs.Contents.{Contents}
-use Rattle.mol_files.specs.Files.{FilePair}
+use Rattle.mol_base.specs.Files.{FilePair}
 use Rattle.mol_table.specs.Program.{Program}
 use Rattle.mol_renames.specs.ClassFiles.{file_list}
 use Rattle.mol_top.specs.Command.{MergeWords, swapped, joined}

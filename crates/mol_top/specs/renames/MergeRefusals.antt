@@ -2,7 +2,7 @@
 use Rattle.std.specs.Prelude.{ℕ, List, Option, None, Some, option_map, is_some, if◌then◌else◌}
 use Rattle.std.specs.Option.{option_or}
 use Rattle.mol_outside.specs.Contents.{Contents}
-use Rattle.mol_files.specs.Files.{FilePair}
+use Rattle.mol_base.specs.Files.{FilePair}
 use Rattle.mol_table.specs.Program.{Program}
 use Rattle.mol_renames.specs.Addresses.{unbuilt_path}
 use Rattle.mol_renames.specs.LogRefusals.{merge_refusal}

@@ -3,7 +3,7 @@ ghost use Rattle.std.specs.Prelude.{◌≡◌, ◌≤◌, IfOk, OnOk, IfErr, Non
 ghost use Rattle.std.specs.Option.{ForSome};
 ghost use Rattle.mol_base.specs.Limits.{most};
 ghost use Rattle.mol_base.specs.declared.limit.Which.TheVariants as limits;
-ghost use Rattle.mol_files.specs.Files.{file_pairs};
+ghost use Rattle.mol_base.specs.Files.{file_pairs};
 ghost use Rattle.mol_top.specs.Carried.{Carries, CarriesOwn, NoPath};
 ghost use Rattle.mol_top.specs.Command.{merge_paths};
 ghost use Rattle.mol_top.specs.Outside.{OnlyReads, store};

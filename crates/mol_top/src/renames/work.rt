@@ -1,6 +1,6 @@
 //! What a merge of two logs writes and prints.
 ghost use Rattle.std.specs.Prelude.{◌≡◌, IfOk, OnOk, IfErr, None};
-ghost use Rattle.mol_files.specs.Files.{file_pairs};
+ghost use Rattle.mol_base.specs.Files.{file_pairs};
 ghost use Rattle.mol_renames.specs.LogRefusals.{merge_refusal};
 ghost use Rattle.mol_renames.specs.Merging.{RefusesLogs};
 ghost use Rattle.mol_top.specs.Carried.{CarriesOwn};

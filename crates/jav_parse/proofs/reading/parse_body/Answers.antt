@@ -1,9 +1,9 @@
 use Rattle.jav_lex.specs.Token.{all_seen}
 use Rattle.jav_tree.specs.Trees.{IsBody}
-use Rattle.jav_rules.specs.WholeRules.{body}
+use Rattle.jav_parse_unit.specs.WholeRules.{body}
 use Rattle.jav_parse.proofs.CompleteWhole.{whole_body}
 use Rattle.jav_parse.proofs.TreeLanguages.{reads_bodies}
-use Rattle.jav_rules.specs.declared.reading.Language.TheVariants as asked
+use Rattle.jav_parse_unit.specs.declared.reading.Language.TheVariants as asked
 use Rattle.jav_parse.proofs.Calls.{tree_clause, only_clause, bad_clause}
 use Rattle.jav_parse.proofs.reading.parse_body.Goals as goal
 

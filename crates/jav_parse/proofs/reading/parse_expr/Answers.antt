@@ -1,9 +1,9 @@
 use Rattle.jav_lex.specs.Token.{all_seen}
 use Rattle.jav_tree.specs.Trees.{IsExpr}
-use Rattle.jav_rules.specs.WholeRules.{expression}
+use Rattle.jav_parse_unit.specs.WholeRules.{expression}
 use Rattle.jav_parse.proofs.CompleteTrees.{whole_expression}
 use Rattle.jav_parse.proofs.TreeLanguages.{reads_expressions}
-use Rattle.jav_rules.specs.declared.reading.Language.TheVariants as asked
+use Rattle.jav_parse_unit.specs.declared.reading.Language.TheVariants as asked
 use Rattle.jav_parse.proofs.Calls.{tree_clause, only_clause, bad_clause}
 use Rattle.jav_parse.proofs.reading.parse_expr.Goals as goal
 

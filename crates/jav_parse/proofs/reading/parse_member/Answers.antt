@@ -1,9 +1,9 @@
 use Rattle.jav_lex.specs.Token.{all_seen}
 use Rattle.jav_tree.specs.Trees.{IsMember}
-use Rattle.jav_rules.specs.WholeRules.{declaration}
+use Rattle.jav_parse_unit.specs.WholeRules.{declaration}
 use Rattle.jav_parse.proofs.CompleteWhole.{whole_member}
 use Rattle.jav_parse.proofs.TreeLanguages.{reads_members}
-use Rattle.jav_rules.specs.declared.reading.Language.TheVariants as asked
+use Rattle.jav_parse_unit.specs.declared.reading.Language.TheVariants as asked
 use Rattle.jav_parse.proofs.Calls.{tree_clause, only_clause, bad_clause}
 use Rattle.jav_parse.proofs.reading.parse_member.Goals as goal
 

@@ -1,7 +1,7 @@
 use Rattle.jav_lex.specs.Token.{all_seen}
-use Rattle.jav_cursor.specs.TypeRules.{whole_type}
+use Rattle.jav_parse_cursor.specs.TypeRules.{whole_type}
 use Rattle.jav_parse.proofs.TypeLanguage.{TypeWithin, reads_types}
-use Rattle.jav_rules.specs.declared.reading.Language.TheVariants as asked
+use Rattle.jav_parse_unit.specs.declared.reading.Language.TheVariants as asked
 use Rattle.jav_parse.proofs.Calls.{tree_clause, only_clause, bad_clause}
 use Rattle.jav_parse.proofs.reading.parse_type.Goals as goal
 

@@ -1,6 +1,6 @@
 use Rattle.std.proofs.Common.{◌≡◌, ◌∷◌, ◌++◌, [], ◌∙◌, sym, ap, map, take}
 use Rattle.std.proofs.lemmas.List.{append_assoc}
-use Rattle.jav_view.specs.UnitViews.{numbered}
+use Rattle.jav_names.specs.UnitViews.{numbered}
 use Rattle.jav_scope.specs.Entries.{import_entry}
 use Rattle.jav_scope.proofs.Numbered.{mapped-more}
 use Rattle.jav_scope.proofs.entries.add_imports.Goals as goal

@@ -1,5 +1,5 @@
 use Rattle.std.proofs.Common.{◌≡◌, map, take}
-use Rattle.jav_view.specs.UnitViews.{numbered}
+use Rattle.jav_names.specs.UnitViews.{numbered}
 use Rattle.jav_scope.specs.Entries.{units_of, class_entry}
 use Rattle.jav_scope.proofs.entries.full_names.Given as goal
 

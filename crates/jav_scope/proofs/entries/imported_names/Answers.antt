@@ -1,5 +1,5 @@
 use Rattle.std.proofs.Common.{◌++◌, ◌∙◌, sym, map}
-use Rattle.jav_view.specs.UnitViews.{numbered}
+use Rattle.jav_names.specs.UnitViews.{numbered}
 use Rattle.jav_scope.specs.Entries.{import_entry, import_entries}
 use Rattle.jav_scope.proofs.Numbered.{units-flat_mapped-more}
 use Rattle.jav_scope.proofs.entries.imported_names.Goals as goal

@@ -1,5 +1,5 @@
 use Rattle.std.proofs.Common.{◌≡◌, flat_map, take}
-use Rattle.jav_view.specs.UnitViews.{numbered}
+use Rattle.jav_names.specs.UnitViews.{numbered}
 use Rattle.jav_scope.specs.Entries.{units_of, import_entries}
 use Rattle.jav_scope.proofs.entries.imported_names.Given as goal
 

@@ -1,7 +1,7 @@
 use Rattle.std.proofs.Common.{◌≡◌, ◌+◌, ◌∙◌, ap, sym, arith, take}
 use Rattle.std.proofs.lemmas.List.{take_all}
-use Rattle.jav_view.specs.DottedNames.{Names}
-use Rattle.jav_view.specs.LookUps.{first_place}
+use Rattle.jav_names.specs.DottedNames.{Names}
+use Rattle.jav_names.specs.LookUps.{first_place}
 use Rattle.jav_scope.proofs.NamePlaces.{first-here, first-later, first_place-front}
 use Rattle.jav_scope.proofs.places.first_place.Goals as goal
 

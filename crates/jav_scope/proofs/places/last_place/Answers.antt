@@ -1,7 +1,7 @@
 use Rattle.std.proofs.Common.{◌≡◌, ◌∙◌, ap, sym, arith, take}
 use Rattle.std.proofs.lemmas.List.{take_all}
-use Rattle.jav_view.specs.DottedNames.{Names}
-use Rattle.jav_view.specs.LookUps.{last_place}
+use Rattle.jav_names.specs.DottedNames.{Names}
+use Rattle.jav_names.specs.LookUps.{last_place}
 use Rattle.jav_scope.proofs.NamePlaces.{last-here, last-before}
 use Rattle.jav_scope.proofs.places.last_place.Goals.{then-eq, else-eq}
 use Rattle.jav_scope.proofs.places.last_place.Goals as goal

@@ -1,5 +1,5 @@
 use Rattle.std.proofs.Common.{◌≡◌, take}
-use Rattle.jav_view.specs.LookUps.{last_place}
+use Rattle.jav_names.specs.LookUps.{last_place}
 use Rattle.jav_scope.proofs.places.last_place.Given as goal
 
 abbrev pub invariant-loop-place : goal.invariant-loop-place

@@ -1,9 +1,9 @@
 use Rattle.std.proofs.Common.{◌∙◌, ap, sym, Some}
-use Rattle.jav_view.specs.DottedNames.{cut}
-use Rattle.jav_view.specs.LookUps.{type_named}
-use Rattle.jav_view.specs.TypeTexts.{type_in}
-use Rattle.jav_view.specs.UnitViews.{header_of}
-use Rattle.jav_view.proofs.WrittenTypes.{type_in-Prim, type_in-Named, type_in-ArrayOf, type_in-Void}
+use Rattle.jav_names.specs.DottedNames.{cut}
+use Rattle.jav_names.specs.LookUps.{type_named}
+use Rattle.jav_names.specs.TypeTexts.{type_in}
+use Rattle.jav_names.specs.UnitViews.{header_of}
+use Rattle.jav_names.proofs.WrittenTypes.{type_in-Prim, type_in-Named, type_in-ArrayOf, type_in-Void}
 use Rattle.jav_scope.specs.Answers.{superclass_answered}
 use Rattle.jav_scope.specs.Entries.{classes_in}
 use Rattle.jav_scope.proofs.AboveClasses.{named-superclass}

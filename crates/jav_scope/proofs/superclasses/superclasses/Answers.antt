@@ -1,7 +1,7 @@
 use Rattle.std.proofs.Common.{◌≡◌, ◌∷◌, ◌++◌, [], ◌∙◌, ℕ, sym, ap, Some, slice_get, refl}
 use Rattle.std.proofs.lemmas.Option.{slice_get_read}
 use Rattle.jav_tree.specs.declared.unit.Unit.{Unit}
-use Rattle.jav_view.specs.UnitViews.{superclass_of}
+use Rattle.jav_names.specs.UnitViews.{superclass_of}
 use Rattle.jav_scope.specs.Answers.{superclass_answered}
 use Rattle.jav_scope.specs.Entries.{classes_in}
 use Rattle.jav_scope.specs.declared.source.SourceUnit.{SourceUnit}

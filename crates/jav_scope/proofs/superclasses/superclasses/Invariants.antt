@@ -1,5 +1,5 @@
 use Rattle.std.proofs.Common.{◌≡◌, map, take}
-use Rattle.jav_view.specs.UnitViews.{numbered, superclass_of}
+use Rattle.jav_names.specs.UnitViews.{numbered, superclass_of}
 use Rattle.jav_scope.specs.Answers.{superclass_answered}
 use Rattle.jav_scope.specs.Entries.{units_of, classes_in}
 use Rattle.jav_scope.proofs.superclasses.superclasses.Given as goal

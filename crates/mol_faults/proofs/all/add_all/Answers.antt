@@ -1,11 +1,11 @@
 use Rattle.std.proofs.Common.{[], ◌∷◌, ◌++◌, List, map, refl, sym, ap, ◌∙◌, subst}
 use Rattle.std.specs.List.{flat_map}
 use Rattle.std.proofs.lemmas.Result.{on_ok_weaker}
-use Rattle.mol_fault.proofs.ByKind.{faults_by_kind}
-use Rattle.mol_fault.specs.Kept.{kept_fault}
-use Rattle.mol_fault.specs.declared.fault.Fault.{Fault}
-use Rattle.mol_misread_faults.proofs.Found.{are-of-kind}
-use Rattle.mol_spelling.specs.FaultList.{AreFaults}
+use Rattle.mol_faults_rules.proofs.ByKind.{faults_by_kind}
+use Rattle.mol_faults_rules.specs.Kept.{kept_fault}
+use Rattle.mol_faults_rules.specs.declared.fault.Fault.{Fault}
+use Rattle.mol_faults_misread.proofs.misread_faults_lemmas.Found.{are-of-kind}
+use Rattle.mol_spell_rules.specs.FaultList.{AreFaults}
 use Rattle.mol_faults.proofs.Joined.{added-joined}
 use Rattle.mol_faults.proofs.all.add_all.Goals as goal
 

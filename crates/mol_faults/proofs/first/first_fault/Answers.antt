@@ -1,5 +1,5 @@
 use Rattle.std.proofs.Common.{◌∙◌, ap, map, option_map}
-use Rattle.mol_fault.specs.Kept.{kept_fault}
+use Rattle.mol_faults_rules.specs.Kept.{kept_fault}
 use Rattle.mol_faults.proofs.FirstOfAll.{is-first-of}
 use Rattle.mol_faults.proofs.first.first_fault.Goals as goal
 use Rattle.mol_faults.specs.First.{first_of}

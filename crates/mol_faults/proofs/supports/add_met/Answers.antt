@@ -1,9 +1,9 @@
 use Rattle.std.proofs.Common.{◌∙◌, ◌++◌, [], map, sym, ap, if◌then◌else◌}
 use Rattle.std.proofs.lemmas.List.{append-nil}
 use Rattle.std.proofs.lemmas.Result.{on_ok_weaker}
-use Rattle.mol_misread_faults.specs.Kept.{kept_misread}
+use Rattle.mol_faults_misread.specs.body_misreads.Kept.{kept_misread}
 use Rattle.mol_faults.specs.Met.{met_by}
-use Rattle.mol_support.specs.Met.{kept_met}
+use Rattle.mol_faults_support.specs.Met.{kept_met}
 use Rattle.mol_faults.proofs.supports.add_met.Goals as goal
 
 pub returns-then-is : goal.returns-then-is

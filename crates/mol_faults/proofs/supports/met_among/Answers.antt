@@ -1,10 +1,10 @@
 use Rattle.std.proofs.Common.{◌∙◌, ◌++◌, sym, ap, map}
 use Rattle.std.proofs.lemmas.List.{take_all}
-use Rattle.mol_fault.specs.Kept.{kept_target}
+use Rattle.mol_faults_rules.specs.Kept.{kept_target}
 use Rattle.mol_faults.proofs.MetMore.{more-made}
 use Rattle.mol_faults.specs.Met.{met_among, met_in}
-use Rattle.mol_misread_faults.specs.Found.{kept_name}
-use Rattle.mol_misread_faults.specs.declared.names.MisreadName.{MisreadName}
+use Rattle.mol_faults_misread.specs.misread_faults.Found.{kept_name}
+use Rattle.mol_faults_misread.specs.declared.misread_faults.names.MisreadName.{MisreadName}
 use Rattle.std.specs.Prelude.{List}
 use Rattle.mol_faults.proofs.supports.met_among.Goals as goal
 

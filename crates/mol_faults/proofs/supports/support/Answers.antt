@@ -1,6 +1,6 @@
 use Rattle.std.proofs.Common.{◌∙◌, map, sym, ap, subst}
-use Rattle.mol_fault.specs.Kept.{kept_fault}
-use Rattle.mol_support.specs.Met.{kept_met, HasMet}
+use Rattle.mol_faults_rules.specs.Kept.{kept_fault}
+use Rattle.mol_faults_support.specs.Met.{kept_met, HasMet}
 use Rattle.mol_faults.proofs.supports.support.Goals as goal
 
 pub support-requires : goal.support-requires

@@ -2,8 +2,8 @@ use Rattle.std.proofs.Common.{ap, ◌∙◌, sym, rules}
 use Rattle.std.proofs.lemmas.List.{take_all}
 use Rattle.serde_json.specs.Data.{array, string}
 use Rattle.serde_json.proofs.Views.{view-Array}
-use Rattle.mol_lines.specs.Objects.{text_items}
-use Rattle.mol_lines.proofs.TextItems.{add_text}
+use Rattle.mol_log_rows.specs.lines.Objects.{text_items}
+use Rattle.mol_log_rows.proofs.lines_lemmas.TextItems.{add_text}
 use Rattle.mol_log.proofs.object.texts_value.Goals as goal
 
 pub loop-text-preserved : goal.loop-text-preserved

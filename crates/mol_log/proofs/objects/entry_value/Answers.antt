@@ -1,8 +1,8 @@
 use Rattle.std.proofs.Common.{List, ℕ, codes, ap, ap₂, ◌∙◌}
 use Rattle.serde_json.specs.Data.{Members, object, put, string}
 use Rattle.mol_base.specs.Identity.{spelled_stamp}
-use Rattle.mol_entries.specs.RowsOf.{row_of}
-use Rattle.mol_rows.specs.RowData.{row_pairs}
+use Rattle.mol_log.specs.entries.RowsOf.{row_of}
+use Rattle.mol_log_rows.specs.rows.RowData.{row_pairs}
 use Rattle.mol_log.proofs.MembersInOrder.{in_order}
 use Rattle.mol_log.specs.Members.{put_pairs}
 use Rattle.mol_log.proofs.objects.entry_value.Goals as goal

@@ -1,9 +1,9 @@
 use Rattle.std.proofs.Common.{List, ℕ, codes, ap, ap₂, ◌∙◌}
 use Rattle.serde_json.specs.Data.{Members, put, string}
-use Rattle.mol_words.specs.TypeWords.{type_words}
-use Rattle.mol_lines.specs.Objects.{texts_data}
-use Rattle.mol_entries.specs.RowsOf.{param_rows}
-use Rattle.mol_rows.specs.RowData.{id_data, kind_data, params_data}
+use Rattle.mol_log_words.specs.TypeWords.{type_words}
+use Rattle.mol_log_rows.specs.lines.Objects.{texts_data}
+use Rattle.mol_log.specs.entries.RowsOf.{param_rows}
+use Rattle.mol_log_rows.specs.rows.RowData.{id_data, kind_data, params_data}
 use Rattle.mol_values.specs.declared.param.Param.{Param}
 use Rattle.mol_log.proofs.MembersInOrder.{put_last}
 use Rattle.mol_log.specs.Members.{members_in}

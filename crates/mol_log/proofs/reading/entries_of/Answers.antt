@@ -1,7 +1,7 @@
 use Rattle.std.proofs.Common.{[], refl}
-use Rattle.mol_lines.specs.Lines.{lines_left}
-use Rattle.mol_lines.specs.declared.fault.LogFault.TheVariants.{OutOfMemory}
-use Rattle.mol_rows.proofs.LineFaults.{answers_err}
+use Rattle.mol_log_rows.specs.lines.Lines.{lines_left}
+use Rattle.mol_log_rows.specs.declared.lines.fault.LogFault.TheVariants.{OutOfMemory}
+use Rattle.mol_log_rows.proofs.rows_lemmas.LineFaults.{answers_err}
 use Rattle.mol_log.proofs.EntriesRead.{none_read, stands, none_left, some_left, fault_read, one_more, fewer_left}
 use Rattle.mol_log.specs.LogLines.{SayEntries, HaveFault}
 use Rattle.mol_log.proofs.reading.entries_of.Goals as goal

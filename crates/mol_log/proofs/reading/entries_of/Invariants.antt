@@ -1,5 +1,5 @@
 use Rattle.std.proofs.Common.{length}
-use Rattle.mol_lines.specs.Lines.{lines_left}
+use Rattle.mol_log_rows.specs.lines.Lines.{lines_left}
 use Rattle.mol_log.proofs.EntriesRead.{HasRead}
 use Rattle.mol_log.proofs.reading.entries_of.Given as goal
 

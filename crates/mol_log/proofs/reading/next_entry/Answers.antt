@@ -1,5 +1,5 @@
 use Rattle.std.proofs.Common.{◌∙◌}
-use Rattle.mol_rows.proofs.LineFaults.{answers_err}
+use Rattle.mol_log_rows.proofs.rows_lemmas.LineFaults.{answers_err}
 use Rattle.mol_log.proofs.NextEntries.{no_row_there, nothing_there, row_there, entry_there, bad_there}
 use Rattle.mol_log.specs.LogLines.{HaveFault}
 use Rattle.mol_log.specs.NextEntry.{IsNextEntry}

@@ -1,5 +1,5 @@
-use Rattle.mol_rows.proofs.LineFaults.{answers_err}
-use Rattle.mol_lines.specs.Lines.{lines_left}
+use Rattle.mol_log_rows.proofs.rows_lemmas.LineFaults.{answers_err}
+use Rattle.mol_log_rows.specs.lines.Lines.{lines_left}
 use Rattle.mol_log.proofs.LogAnswers.{log-read}
 use Rattle.mol_log.proofs.LogKept.{kept}
 use Rattle.mol_log.specs.Form.{IsLogText, IsLogFault, no_start, no_entry}

@@ -2,7 +2,7 @@ use Rattle.std.proofs.Common.{ap, ◌∙◌, arith}
 use Rattle.serde_json.specs.Data.{depth}
 use Rattle.serde_json.specs.View.{view}
 use Rattle.serde_json.specs.Written.{has_float}
-use Rattle.mol_entries.specs.RowsOf.{row_of}
+use Rattle.mol_log.specs.entries.RowsOf.{row_of}
 use Rattle.mol_log.proofs.EntriesWritten.{read_of}
 use Rattle.mol_log.proofs.RowTexts.{row-line}
 use Rattle.mol_log.specs.Written.{entry_data}

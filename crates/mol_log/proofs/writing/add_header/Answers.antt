@@ -2,7 +2,7 @@ use Rattle.std.proofs.Common.{◌≡◌, ℕ, List, ap, ◌∙◌, arith}
 use Rattle.serde_json.specs.Data.{depth}
 use Rattle.serde_json.specs.View.{view}
 use Rattle.serde_json.specs.Written.{has_float}
-use Rattle.mol_lines.specs.Headers.{header_data}
+use Rattle.mol_log_rows.specs.lines.Headers.{header_data}
 use Rattle.mol_log.proofs.EntriesWritten.{line_of, read_of}
 use Rattle.mol_log.proofs.RowTexts.{header-line}
 use Rattle.mol_log.specs.Form.{header_of, header_with}

@@ -1,7 +1,7 @@
 use Rattle.std.proofs.Common.{◌≤◌, ◌++◌, length, ap, ◌∙◌, sym, subst}
 use Rattle.mol_base.specs.Limits.{most}
 use Rattle.mol_base.specs.declared.limit.Which.TheVariants.{LogBytes}
-use Rattle.mol_lines.specs.Headers.{header_data}
+use Rattle.mol_log_rows.specs.lines.Headers.{header_data}
 use Rattle.mol_log.proofs.EntriesWritten.{add-entry, add-read, all-written, all-read, digest_of}
 use Rattle.mol_log.proofs.WrittenLogs.{AreReadBack, text_of, written-spells}
 use Rattle.mol_log.specs.Form.{IsLogText, header_of}

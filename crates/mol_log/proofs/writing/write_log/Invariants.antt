@@ -1,5 +1,5 @@
 use Rattle.std.proofs.Common.{◌≡◌, ◌++◌, take}
-use Rattle.mol_lines.specs.Headers.{header_data}
+use Rattle.mol_log_rows.specs.lines.Headers.{header_data}
 use Rattle.mol_log.proofs.WrittenLogs.{AreReadBack, text_of}
 use Rattle.mol_log.specs.Form.{header_of}
 use Rattle.mol_log.specs.Written.{line_text}

@@ -1,11 +1,11 @@
 use Rattle.std.proofs.Common.{drop, take, ◌+◌}
 use Rattle.std.proofs.lemmas.List.{map_push, take_more}
 use Rattle.std.proofs.lemmas.Result.{err_from_is_err_and}
-use Rattle.mol_files.specs.Files.{file_pair, file_pairs}
+use Rattle.mol_base.specs.Files.{file_pair, file_pairs}
 use Rattle.mol_program.proofs.FirstWrong.{first-unread}
 use Rattle.mol_program.proofs.TreesOfFiles.{parsed-push, split-at}
 use Rattle.mol_program.proofs.units.source_units.Goals as goal
-use Rattle.mol_sources.specs.Sources.{file_of, files_of}
+use Rattle.mol_resolve_members.specs.sources.Sources.{file_of, files_of}
 
 pub returns-in_err-unit-clause-fault : goal.returns-in_err-unit-clause-fault
 returns-in_err-unit-clause-fault c =

@@ -1,7 +1,7 @@
 use Rattle.std.proofs.Common.{take}
-use Rattle.mol_files.specs.Files.{file_pairs}
+use Rattle.mol_base.specs.Files.{file_pairs}
 use Rattle.mol_program.specs.Programs.{AreParsed}
-use Rattle.mol_sources.specs.Sources.{files_of}
+use Rattle.mol_resolve_members.specs.sources.Sources.{files_of}
 use Rattle.mol_program.proofs.units.source_units.Given as goal
 
 abbrev pub invariant-loop-file : goal.invariant-loop-file

@@ -2,7 +2,7 @@ use Rattle.std.proofs.Common.{◌≡◌, take, None, length}
 use Rattle.std.specs.List.{find, filter_map}
 use Rattle.mol_renames.specs.Addresses.{address_pairs, is_unbuilt}
 use Rattle.mol_renames.specs.ClassFiles.{address_in}
-use Rattle.mol_files.specs.Files.{file_pairs}
+use Rattle.mol_base.specs.Files.{file_pairs}
 use Rattle.mol_renames.proofs.built.read_addresses.Given as goal
 
 abbrev pub invariant-loop-file : goal.invariant-loop-file

@@ -1,6 +1,6 @@
 use Rattle.std.proofs.Common.{rules, ◌≡◌, ◌∙◌, Option, Some, None, sym}
 use Rattle.mol_renames.specs.ClassFiles as spec
-use Rattle.mol_files.specs.Files.{file_pair}
+use Rattle.mol_base.specs.Files.{file_pair}
 use Rattle.mol_renames.proofs.Addresses.{package_text, name_text, only_class, class_read}
 use Rattle.mol_renames.proofs.class_file.address_in.Goals as goal
 

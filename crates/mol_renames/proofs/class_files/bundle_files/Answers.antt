@@ -1,7 +1,7 @@
 use Rattle.std.proofs.Common.{◌++◌, ◌∙◌, sym, ap, map, take, rules}
 use Rattle.std.specs.List.{concat}
 use Rattle.mol_renames.specs.ClassFiles.{bundled}
-use Rattle.mol_files.specs.Files.{file_pair, file_pairs}
+use Rattle.mol_base.specs.Files.{file_pair, file_pairs}
 use Rattle.mol_renames.proofs.FileLists.{bundled_more}
 use Rattle.mol_base.specs.declared.file.File.{File}
 use Rattle.mol_renames.proofs.class_files.bundle_files.Goals as goal

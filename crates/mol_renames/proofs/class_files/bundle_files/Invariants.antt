@@ -1,7 +1,7 @@
 use Rattle.std.proofs.Common.{◌≡◌, map, take}
 use Rattle.std.specs.List.{concat}
 use Rattle.mol_renames.specs.ClassFiles.{bundled}
-use Rattle.mol_files.specs.Files.{file_pairs}
+use Rattle.mol_base.specs.Files.{file_pairs}
 use Rattle.mol_renames.proofs.class_files.bundle_files.Given as goal
 
 abbrev pub invariant-loop-file : goal.invariant-loop-file

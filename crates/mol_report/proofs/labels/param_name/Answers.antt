@@ -2,7 +2,7 @@ use Rattle.std.proofs.Common.{◌≡◌, ◌∙◌, ℕ, List, [], Option, sym, 
 use Rattle.std.specs.List.{find}
 use Rattle.std.specs.Option.{option_and_then, option_map_or}
 use Rattle.mol_base.specs.declared.ident.Id.{Id}
-use Rattle.mol_spell.specs.StaticTypes.{present_param}
+use Rattle.mol_resolve_rules.specs.StaticTypes.{present_param}
 use Rattle.mol_table.specs.Program.{Program, same_id, params_at, method_in}
 use Rattle.mol_values.proofs.Ties.{id_ties}
 use Rattle.mol_values.specs.declared.param.Param.{Param}

@@ -1,11 +1,11 @@
 use Rattle.std.proofs.Common.{◌≡◌, List, subst}
 use Rattle.std.specs.Result.{IfErr, IfOk, OnOk}
 use Rattle.jav_scope.specs.declared.source.SourceUnit.{SourceUnit}
-use Rattle.mol_plain.specs.Entities.{plain_entities}
+use Rattle.mol_resolve_laws.specs.Entities.{plain_entities}
 use Rattle.mol_resolve.proofs.resolving.entities_of.Goals as goal
 use Rattle.mol_resolve.specs.Reported.{IsReported}
-use Rattle.mol_sources.specs.Sources.{files_of}
-use Rattle.mol_spell.specs.ReadAs.{HasNoFault}
+use Rattle.mol_resolve_members.specs.sources.Sources.{files_of}
+use Rattle.mol_resolve_rules.specs.ReadAs.{HasNoFault}
 
 pub returns-clause-none : goal.returns-clause-none
 returns-clause-none c =

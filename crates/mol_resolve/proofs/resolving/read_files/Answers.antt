@@ -1,12 +1,12 @@
 use Rattle.std.proofs.Common.{◌≡◌, ◌∙◌, List, ap, subst, sym}
 use Rattle.std.specs.Result.{IfErr, IfOk, OnOk}
 use Rattle.jav_scope.specs.declared.source.SourceUnit.{SourceUnit}
-use Rattle.mol_places.specs.Orders.{numbers_by_path}
-use Rattle.mol_plain.specs.Entities.{plain_entities}
+use Rattle.mol_resolve_members.specs.places.Orders.{numbers_by_path}
+use Rattle.mol_resolve_laws.specs.Entities.{plain_entities}
 use Rattle.mol_resolve.proofs.resolving.read_files.Goals as goal
 use Rattle.mol_resolve.specs.Reported.{IsReported}
-use Rattle.mol_sources.specs.Sources.{files_of}
-use Rattle.mol_spell.specs.ReadAs.{HasNoFault}
+use Rattle.mol_resolve_members.specs.sources.Sources.{files_of}
+use Rattle.mol_resolve_rules.specs.ReadAs.{HasNoFault}
 
 pub read_all-requires : goal.read_all-requires
 read_all-requires c =

@@ -1,7 +1,7 @@
 use Rattle.std.proofs.lemmas.Result.{err_from_is_err_and}
 use Rattle.mol_resolve.proofs.PlainPrograms.{all-new, is-plain, reads-as}
 use Rattle.mol_resolve.proofs.resolving.resolve.Goals as goal
-use Rattle.mol_sources.specs.Sources.{files_of}
+use Rattle.mol_resolve_members.specs.sources.Sources.{files_of}
 
 pub table_of-requires : goal.table_of-requires
 table_of-requires c =

@@ -1,6 +1,6 @@
 use Rattle.std.proofs.Common.{sym}
 use Rattle.std.proofs.lemmas.List.{length-map}
-use Rattle.mol_files.specs.Files.{file_pair, file_pairs}
+use Rattle.mol_base.specs.Files.{file_pair, file_pairs}
 use Rattle.mol_top.proofs.ReadBases.{wrong_files}
 use Rattle.mol_top.proofs.clean_base.base_program.Goals as goal
 

@@ -1,6 +1,6 @@
 use Rattle.std.specs.Option.{ForSome}
 use Rattle.std.proofs.lemmas.Result.{IfErr-weaker, IfOk-weaker}
-use Rattle.mol_files.specs.Files.{file_pairs}
+use Rattle.mol_base.specs.Files.{file_pairs}
 use Rattle.mol_top.proofs.BaseStops.{files_stopped, unread_stopped}
 use Rattle.mol_top.proofs.ReadBases.{program_read, refused_carries, unread_carries}
 use Rattle.mol_top.proofs.clean_base.read_base_program.Goals as goal

@@ -1,10 +1,10 @@
 use Rattle.std.proofs.Common.{◌≡◌, ◌∙◌, ◌++◌, ◌∷◌, [], List, map, sym, ap}
 use Rattle.std.proofs.lemmas.List.{map_push}
-use Rattle.mol_files.specs.Files.{file_pair, file_pairs}
-use Rattle.mol_spelling.specs.PrintedFiles.{printed_text}
-use Rattle.mol_spelling.specs.SpelledUnits.{SpelledUnit}
-use Rattle.mol_spelt.specs.Keys.{key_of}
-use Rattle.mol_spelt.specs.Spelt.{unit_at}
+use Rattle.mol_base.specs.Files.{file_pair, file_pairs}
+use Rattle.mol_spell_rules.specs.PrintedFiles.{printed_text}
+use Rattle.mol_spell_rules.specs.SpelledUnits.{SpelledUnit}
+use Rattle.mol_spell.specs.keys.Keys.{key_of}
+use Rattle.mol_spell.specs.Spelt.{unit_at}
 use Rattle.mol_top.proofs.formatting.files_of.Goals as goal
 use Rattle.mol_top.specs.Formatting.{printed_height, written_text}
 

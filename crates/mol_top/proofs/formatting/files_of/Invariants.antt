@@ -1,8 +1,8 @@
 use Rattle.std.proofs.Common.{◌≡◌, map}
-use Rattle.mol_files.specs.Files.{file_pairs}
-use Rattle.mol_spelling.specs.PrintedFiles.{printed_text}
-use Rattle.mol_spelt.specs.Keys.{key_of}
-use Rattle.mol_spelt.specs.Spelt.{unit_at}
+use Rattle.mol_base.specs.Files.{file_pairs}
+use Rattle.mol_spell_rules.specs.PrintedFiles.{printed_text}
+use Rattle.mol_spell.specs.keys.Keys.{key_of}
+use Rattle.mol_spell.specs.Spelt.{unit_at}
 use Rattle.mol_top.proofs.formatting.files_of.Given as goal
 use Rattle.mol_top.specs.Formatting.{printed_height, written_text}
 

@@ -1,6 +1,6 @@
 use Rattle.std.proofs.Common.{◌≡◌}
 use Rattle.mol_top.specs.Output.{below}
-use Rattle.mol_files.specs.Files.{file_pairs}
+use Rattle.mol_base.specs.Files.{file_pairs}
 use Rattle.mol_top.proofs.output.below.Given as goal
 
 abbrev pub invariant-loop-file : goal.invariant-loop-file

@@ -1,6 +1,6 @@
 use Rattle.std.proofs.Common.{◌≡◌, drop}
 use Rattle.mol_top.specs.Output.{long_text}
-use Rattle.mol_files.specs.Files.{file_pairs}
+use Rattle.mol_base.specs.Files.{file_pairs}
 use Rattle.mol_top.proofs.output.refuse_long_text.Given as goal
 
 abbrev pub invariant-loop-text : goal.invariant-loop-text

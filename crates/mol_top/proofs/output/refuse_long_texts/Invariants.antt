@@ -2,7 +2,7 @@ use Rattle.std.proofs.Common.{◌≡◌, ◌≤◌, drop}
 use Rattle.mol_base.specs.Limits.{most}
 use Rattle.mol_base.specs.declared.limit.Which.TheVariants.{SourceBytes}
 use Rattle.mol_top.specs.Output.{long_texts}
-use Rattle.mol_files.specs.Files.{file_pairs}
+use Rattle.mol_base.specs.Files.{file_pairs}
 use Rattle.mol_top.proofs.output.refuse_long_texts.Given as goal
 
 abbrev pub invariant-loop-text : goal.invariant-loop-text

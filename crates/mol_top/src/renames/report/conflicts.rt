@@ -7,7 +7,8 @@ use super::pieces::{push_cell, push_fault, push_stamps};
 use super::values::push_value;
 use mol_base::OutOfMemory;
 use mol_renames::{Conflict, ConflictKind, push_number};
-use mol_table::{Cell, Table, Value};
+use mol_table::Table;
+use mol_values::{Cell, Value};
 use std::alloc::Global;
 
 /// The report of conflicts over the base whose addresses it names: the number of conflicts, and a line

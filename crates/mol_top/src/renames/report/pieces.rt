@@ -7,7 +7,8 @@ ghost use Rattle.mol_top.specs.renames.ConflictReport.{label_of, id_text, cell_t
 
 use mol_base::{Id, OutOfMemory, Stamp};
 use mol_renames::Fault;
-use mol_table::{Cell, Slot, Table, Value};
+use mol_table::Table;
+use mol_values::{Cell, Slot, Value};
 use std::alloc::Global;
 
 /// Appends an identity and, in brackets, its address in the base or `added`.

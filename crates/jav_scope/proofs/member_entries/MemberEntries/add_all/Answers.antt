@@ -2,7 +2,7 @@ use Rattle.std.proofs.Common.{◌≡◌, ◌+◌, ◌++◌, ◌∙◌, List, fil
 use Rattle.std.specs.Option.{option_to_list}
 use Rattle.std.proofs.lemmas.List.{take_all}
 use Rattle.jav_tree.specs.declared.unit.Member.{Member}
-use Rattle.jav_view.specs.UnitViews.{numbered, field_in, declaration_in}
+use Rattle.jav_names.specs.UnitViews.{numbered, field_in, declaration_in}
 use Rattle.jav_scope.specs.MemberLists.{AreAdded}
 use Rattle.jav_scope.proofs.MembersListed.{none-added, added-then}
 use Rattle.jav_scope.proofs.Numbered.{filter_mapped-more}

@@ -1,7 +1,7 @@
 use Rattle.std.proofs.Common.{ℕ, filter_map, take}
 use Rattle.jav_tree.specs.declared.unit.Unit.{Unit}
-use Rattle.jav_view.specs.UnitViews.{numbered, field_in, declaration_in}
-use Rattle.jav_view.specs.Views.{Classes}
+use Rattle.jav_names.specs.UnitViews.{numbered, field_in, declaration_in}
+use Rattle.jav_names.specs.Views.{Classes}
 use Rattle.jav_scope.specs.MemberLists.{AreAdded}
 use Rattle.jav_scope.proofs.member_entries.MemberEntries.add_all.Given as goal
 

@@ -1,5 +1,5 @@
 use Rattle.std.proofs.Common.{flat_map, take}
-use Rattle.jav_view.specs.UnitViews.{numbered, fields_of, declarations_of}
+use Rattle.jav_names.specs.UnitViews.{numbered, fields_of, declarations_of}
 use Rattle.jav_scope.specs.Entries.{units_of, classes_in}
 use Rattle.jav_scope.specs.MemberLists.{AreListed}
 use Rattle.jav_scope.proofs.member_entries.MemberEntries.of.Given as goal

@@ -1,7 +1,7 @@
 use Rattle.std.proofs.Common.{◌∙◌, ℕ, ap, option_map}
-use Rattle.jav_view.specs.LookUps.{class_named}
-use Rattle.jav_view.specs.Views.{ViewClass}
-use Rattle.jav_index.specs.Spelled.{spelled}
+use Rattle.jav_names.specs.LookUps.{class_named}
+use Rattle.jav_names.specs.Views.{ViewClass}
+use Rattle.jav_names.specs.index.Spelled.{spelled}
 use Rattle.jav_scope.specs.Entries.{classes_in}
 use Rattle.jav_scope.proofs.scope.Scope.class_named.Goals as goal
 

@@ -1,8 +1,8 @@
 use Rattle.std.proofs.Common.{◌≡◌, ◌∙◌, ◌<◌, ℕ, List, length, ap, sym, subst, get_or, slice_get}
-use Rattle.jav_view.specs.DottedNames.{Names}
-use Rattle.jav_view.specs.Leftmost.{Leftmost}
-use Rattle.jav_view.specs.LookUps.{variable, leftmost_type, simple_type}
-use Rattle.jav_view.specs.UnitViews.{MemberKey, header_of, place_in}
+use Rattle.jav_names.specs.DottedNames.{Names}
+use Rattle.jav_names.specs.Leftmost.{Leftmost}
+use Rattle.jav_names.specs.LookUps.{variable, leftmost_type, simple_type}
+use Rattle.jav_names.specs.UnitViews.{MemberKey, header_of, place_in}
 use Rattle.jav_scope.specs.Answers.{answered, variable_ref, leftmost_answered}
 use Rattle.jav_scope.specs.Entries.{classes_in, view_in}
 use Rattle.jav_scope.specs.declared.source.SourceUnit.{SourceUnit}

@@ -1,6 +1,6 @@
 use Rattle.std.proofs.Common.{◌≡◌, ◌∙◌, ◌-◌, ◌+◌, ℕ, suc, length, find, Option, Some, None, sym, ap, arith}
-use Rattle.jav_index.specs.Seeking.{is_sought}
-use Rattle.jav_index.specs.declared.entry.Entry.{Entry}
+use Rattle.jav_names.specs.index.Seeking.{is_sought}
+use Rattle.jav_names.specs.declared.index.entry.Entry.{Entry}
 use Rattle.jav_scope.specs.Answers.{answered, entry_ref}
 use Rattle.jav_scope.specs.Climbs.{climb}
 use Rattle.jav_scope.specs.Entries.{view_in}

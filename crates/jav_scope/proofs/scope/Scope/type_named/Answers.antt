@@ -1,7 +1,7 @@
 use Rattle.std.proofs.Common.{◌<◌, ◌∙◌, ap, sym, subst, length, slice_get}
-use Rattle.jav_view.specs.DottedNames.{cut}
-use Rattle.jav_view.specs.LookUps.{type_named}
-use Rattle.jav_view.specs.UnitViews.{header_of}
+use Rattle.jav_names.specs.DottedNames.{cut}
+use Rattle.jav_names.specs.LookUps.{type_named}
+use Rattle.jav_names.specs.UnitViews.{header_of}
 use Rattle.jav_scope.specs.Answers.{type_answered}
 use Rattle.jav_scope.specs.Entries.{classes_in}
 use Rattle.jav_scope.proofs.scope.Scope.type_named.Goals as goal

@@ -1,4 +1,4 @@
-use Rattle.jav_view.specs.LookUps.{first_place, last_place, field_from}
+use Rattle.jav_names.specs.LookUps.{first_place, last_place, field_from}
 use Rattle.jav_scope.specs.Entries.{view_in}
 use Rattle.jav_scope.proofs.VariablesFound.{is-local, is-parameter, is-field, is-outside, is-nothing}
 use Rattle.jav_scope.proofs.scope.Scope.variable.Goals as goal

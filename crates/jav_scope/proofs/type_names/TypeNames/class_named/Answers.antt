@@ -1,8 +1,8 @@
 use Rattle.std.proofs.Common.{◌∙◌, ℕ, List, ap, option_map}
-use Rattle.jav_view.specs.LookUps.{class_named}
-use Rattle.jav_view.specs.Views.{ViewClass}
-use Rattle.jav_index.specs.Spelled.{spelled}
-use Rattle.jav_index.specs.declared.entry.Entry.{Entry}
+use Rattle.jav_names.specs.LookUps.{class_named}
+use Rattle.jav_names.specs.Views.{ViewClass}
+use Rattle.jav_names.specs.index.Spelled.{spelled}
+use Rattle.jav_names.specs.declared.index.entry.Entry.{Entry}
 use Rattle.jav_scope.specs.Entries.{classes_in}
 use Rattle.jav_scope.proofs.NamesFound.{found-class}
 use Rattle.jav_scope.proofs.type_names.TypeNames.class_named.Goals as goal

@@ -1,5 +1,5 @@
 use Rattle.std.proofs.Common.{◌∙◌, ap}
-use Rattle.jav_view.specs.LookUps.{class_named, class_or_imported}
+use Rattle.jav_names.specs.LookUps.{class_named, class_or_imported}
 use Rattle.jav_scope.specs.Answers.{reading_of}
 use Rattle.jav_scope.specs.Entries.{classes_in}
 use Rattle.jav_scope.proofs.TypesFound.{imported-class, imported-outside}

@@ -1,5 +1,5 @@
-use Rattle.jav_view.specs.LookUps.{class_named}
-use Rattle.jav_index.specs.Spelled.{spelled}
+use Rattle.jav_names.specs.LookUps.{class_named}
+use Rattle.jav_names.specs.index.Spelled.{spelled}
 use Rattle.jav_scope.specs.Entries.{classes_in}
 use Rattle.jav_scope.proofs.TypesFound.{written-class, written-outside}
 use Rattle.jav_scope.proofs.type_names.TypeNames.class_or_written.Goals as goal

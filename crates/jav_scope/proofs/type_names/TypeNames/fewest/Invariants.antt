@@ -1,6 +1,6 @@
 use Rattle.std.proofs.Common.{◌≡◌, ℕ, ◌<◌, ◌∷◌, None, take}
-use Rattle.jav_view.specs.DottedNames.{Name, Names, joined}
-use Rattle.jav_view.specs.LookUps.{class_named}
+use Rattle.jav_names.specs.DottedNames.{Name, Names, joined}
+use Rattle.jav_names.specs.LookUps.{class_named}
 use Rattle.jav_scope.specs.Entries.{classes_in}
 use Rattle.jav_scope.proofs.type_names.TypeNames.fewest.Given as goal
 

@@ -1,7 +1,7 @@
 use Rattle.std.proofs.Common.{◌≡◌, ◌∙◌, ◌<◌, List, length, sym, ap, find, get_or, subst, rules, Some, None, slice_get}
 use Rattle.std.proofs.lemmas.Option.{get_or_from_slice_get}
-use Rattle.jav_view.specs.DottedNames.{Name, Names}
-use Rattle.jav_index.specs.Seeking.{is_sought}
+use Rattle.jav_names.specs.DottedNames.{Name, Names}
+use Rattle.jav_names.specs.index.Seeking.{is_sought}
 use Rattle.jav_scope.specs.declared.source.SourceUnit.{SourceUnit}
 use Rattle.jav_scope.proofs.Finding.{lent-at}
 use Rattle.jav_scope.proofs.NamesFound.{import-there, import-nowhere}

@@ -1,7 +1,7 @@
 use Rattle.std.proofs.Common.{◌≡◌, ◌∙◌, ap, get_or}
-use Rattle.jav_view.specs.DottedNames.{Names}
-use Rattle.jav_view.specs.LookUps.{simple_type}
-use Rattle.jav_view.specs.UnitViews.{header_of}
+use Rattle.jav_names.specs.DottedNames.{Names}
+use Rattle.jav_names.specs.LookUps.{simple_type}
+use Rattle.jav_names.specs.UnitViews.{header_of}
 use Rattle.jav_scope.specs.Answers.{reading_of}
 use Rattle.jav_scope.specs.Entries.{classes_in}
 use Rattle.jav_scope.proofs.LeftmostFound.{first-class, first-imported, first-written, first-nothing}

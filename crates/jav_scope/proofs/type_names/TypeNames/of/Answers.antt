@@ -1,5 +1,5 @@
 use Rattle.std.proofs.Common.{◌∙◌, ap, find}
-use Rattle.jav_index.specs.Seeking.{is_sought}
+use Rattle.jav_names.specs.index.Seeking.{is_sought}
 use Rattle.jav_scope.proofs.type_names.TypeNames.of.Goals as goal
 
 pub invariant_of-result : goal.invariant_of-result

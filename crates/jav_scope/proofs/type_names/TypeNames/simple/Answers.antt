@@ -1,8 +1,8 @@
 use Rattle.std.proofs.Common.{◌≡◌, ◌∙◌, ◌<◌, ◌++◌, ◌∷◌, List, length, get_or, sym, ap, subst, rules, refl, true, false, bytes_eq, Some, slice_get}
 use Rattle.std.proofs.lemmas.Option.{get_or_from_slice_get}
-use Rattle.jav_view.specs.DottedNames.{Name, dot}
-use Rattle.jav_view.specs.LookUps.{class_named, class_or_written}
-use Rattle.jav_view.specs.UnitViews.{class_of, header_of}
+use Rattle.jav_names.specs.DottedNames.{Name, dot}
+use Rattle.jav_names.specs.LookUps.{class_named, class_or_written}
+use Rattle.jav_names.specs.UnitViews.{class_of, header_of}
 use Rattle.jav_scope.specs.Answers.{reading_of}
 use Rattle.jav_scope.specs.Entries.{classes_in}
 use Rattle.jav_scope.specs.declared.source.SourceUnit.{SourceUnit}

@@ -1,8 +1,8 @@
 use Rattle.std.proofs.Common.{◌∙◌, Some, None, sym, ap, lit<}
 use Rattle.std.proofs.lemmas.Str.Pattern.{split_parts}
-use Rattle.jav_view.specs.DottedNames.{cut}
-use Rattle.jav_view.specs.LookUps.{class_named, class_or_written, simple_type, type_named}
-use Rattle.jav_view.specs.UnitViews.{header_of}
+use Rattle.jav_names.specs.DottedNames.{cut}
+use Rattle.jav_names.specs.LookUps.{class_named, class_or_written, simple_type, type_named}
+use Rattle.jav_names.specs.UnitViews.{header_of}
 use Rattle.jav_scope.specs.Answers.{reading_answered, type_answered}
 use Rattle.jav_scope.specs.Entries.{classes_in}
 use Rattle.jav_scope.proofs.CutTexts.{read-simple, read-more}

@@ -2,10 +2,10 @@ use Rattle.std.proofs.Common.{◌∙◌, ◌∷◌, ◌++◌, [], List, ap, opti
 use Rattle.std.specs.Option.{option_to_list}
 use Rattle.std.proofs.lemmas.Result.{IfOk-weaker}
 use Rattle.jav_scope.specs.declared.source.SourceUnit.{SourceUnit}
-use Rattle.mol_entities.specs.Parts.{class_entity}
+use Rattle.mol_resolve_entities.specs.Parts.{class_entity}
 use Rattle.mol_resolve.proofs.file_reader.FileReader.add_class.Goals as goal
-use Rattle.mol_sources.specs.Sources.{files_of}
-use Rattle.mol_spell.specs.Numbering.{ids_of}
+use Rattle.mol_resolve_members.specs.sources.Sources.{files_of}
+use Rattle.mol_resolve_rules.specs.Numbering.{ids_of}
 
 pub returns-clause-classes : goal.returns-clause-classes
 returns-clause-classes c =

@@ -2,14 +2,14 @@ use Rattle.std.proofs.Common.{ℕ, List, ap, length, subst, sym}
 use Rattle.std.proofs.lemmas.Result.{IfOk-weaker}
 use Rattle.jav_tree.specs.declared.unit.Member.TheVariants as member
 use Rattle.jav_tree.specs.declared.unit.Param.{Param}
-use Rattle.mol_file_entities.proofs.ReadAtKeys.{entities_read}
-use Rattle.mol_member_entities.specs.Outcomes.{constructor_read, field_read, method_read}
-use Rattle.mol_names.specs.InMember.{reader_of}
-use Rattle.mol_numbers.specs.Members.{HasArity}
-use Rattle.mol_places.specs.Listings.{key_of}
+use Rattle.mol_resolve_entities.proofs.file_entities_lemmas.ReadAtKeys.{entities_read}
+use Rattle.mol_resolve_entities.specs.member_entities.Outcomes.{constructor_read, field_read, method_read}
+use Rattle.mol_resolve_names.specs.names.InMember.{reader_of}
+use Rattle.mol_resolve_members.specs.numbers.Members.{HasArity}
+use Rattle.mol_resolve_members.specs.places.Listings.{key_of}
 use Rattle.mol_resolve.proofs.AtPlaces.{constructor-arity, has-member, method-arity, read-as}
 use Rattle.mol_resolve.proofs.file_reader.FileReader.made.Goals as goal
-use Rattle.mol_sources.specs.Sources.{files_of}
+use Rattle.mol_resolve_members.specs.sources.Sources.{files_of}
 
 pub member_ids-requires : goal.member_ids-requires
 member_ids-requires c = has-member c.args.self.now c.args.at c.args.member.now c.requires.member

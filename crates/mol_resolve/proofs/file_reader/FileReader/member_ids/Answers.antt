@@ -1,9 +1,9 @@
 use Rattle.std.proofs.Common.{◌∙◌, List, ap, subst, sym}
 use Rattle.jav_scope.specs.declared.source.SourceUnit.{SourceUnit}
-use Rattle.mol_places.specs.Listings.{HasMember, key_of}
+use Rattle.mol_resolve_members.specs.places.Listings.{HasMember, key_of}
 use Rattle.mol_resolve.proofs.file_reader.FileReader.member_ids.Goals as goal
-use Rattle.mol_sources.specs.Sources.{files_of}
-use Rattle.mol_spell.specs.Numbering.{ids_of}
+use Rattle.mol_resolve_members.specs.sources.Sources.{files_of}
+use Rattle.mol_resolve_rules.specs.Numbering.{ids_of}
 
 pub member_id-requires : goal.member_id-requires
 member_id-requires c =

@@ -1,6 +1,6 @@
 use Rattle.std.proofs.Common.{◌∙◌, List, subst, sym}
 use Rattle.jav_scope.specs.declared.source.SourceUnit.{SourceUnit}
-use Rattle.mol_numbers.specs.Members.{HasArity}
+use Rattle.mol_resolve_members.specs.numbers.Members.{HasArity}
 use Rattle.mol_resolve.proofs.AtPlaces.{method-ids}
 use Rattle.mol_resolve.proofs.file_reader.FileReader.method_ids.Goals as goal
 

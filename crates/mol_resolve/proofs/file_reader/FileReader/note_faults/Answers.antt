@@ -1,13 +1,13 @@
 use Rattle.std.proofs.Common.{◌∙◌, ℕ, List, ap, filter, flat_map, slice_get}
 use Rattle.jav_scope.specs.declared.source.SourceUnit.{SourceUnit}
-use Rattle.mol_file_members.proofs.Outcomes.{noted_on}
-use Rattle.mol_name_faults.specs.First.{all_noted}
+use Rattle.mol_resolve_expr.proofs.Outcomes.{noted_on}
+use Rattle.mol_resolve_faults.specs.First.{all_noted}
 use Rattle.mol_resolve.proofs.file_reader.FileReader.note_faults.Goals as goal
-use Rattle.mol_sources.specs.Sources.{file_of, files_of}
-use Rattle.mol_spell.specs.FaultKinds.{every_kind}
-use Rattle.mol_spell.specs.FaultLists.{at_place, faults_beside, has_fault}
-use Rattle.mol_spell.specs.Files.{File}
-use Rattle.mol_spell.specs.ResolveFaults.{rows_in}
+use Rattle.mol_resolve_members.specs.sources.Sources.{file_of, files_of}
+use Rattle.mol_resolve_rules.specs.FaultKinds.{every_kind}
+use Rattle.mol_resolve_rules.specs.FaultLists.{at_place, faults_beside, has_fault}
+use Rattle.mol_resolve_rules.specs.Files.{File}
+use Rattle.mol_resolve_rules.specs.ResolveFaults.{rows_in}
 
 pub returns : goal.returns
 returns c =

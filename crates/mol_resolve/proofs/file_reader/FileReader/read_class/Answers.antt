@@ -1,13 +1,13 @@
 use Rattle.std.proofs.Common.{◌∙◌, ◌++◌, ap, option_map}
 use Rattle.std.specs.Option.{option_to_list}
 use Rattle.std.proofs.lemmas.Result.{IfOk-weaker}
-use Rattle.mol_entities.specs.Parts.{class_entity}
-use Rattle.mol_file_entities.proofs.ReadAtKeys.{entities_read}
-use Rattle.mol_name_faults.specs.First.{all_noted}
+use Rattle.mol_resolve_entities.specs.Parts.{class_entity}
+use Rattle.mol_resolve_entities.proofs.file_entities_lemmas.ReadAtKeys.{entities_read}
+use Rattle.mol_resolve_faults.specs.First.{all_noted}
 use Rattle.mol_resolve.proofs.file_reader.FileReader.read_class.Goals as goal
-use Rattle.mol_sources.proofs.Sourced.{file-there}
-use Rattle.mol_sources.specs.Sources.{file_of, files_of}
-use Rattle.mol_spell.specs.Numbering.{ids_of}
+use Rattle.mol_resolve_members.proofs.sources_lemmas.Sourced.{file-there}
+use Rattle.mol_resolve_members.specs.sources.Sources.{file_of, files_of}
+use Rattle.mol_resolve_rules.specs.Numbering.{ids_of}
 
 pub returns-clause-faults : goal.returns-clause-faults
 returns-clause-faults c =

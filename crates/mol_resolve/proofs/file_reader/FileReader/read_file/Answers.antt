@@ -2,7 +2,7 @@ use Rattle.std.proofs.lemmas.Result.{IfErr-weaker, IfOk-weaker}
 use Rattle.mol_resolve.proofs.FaultsMet.{first-noted, none-noted, whole-noted}
 use Rattle.mol_resolve.proofs.FilesAdded.{file-added}
 use Rattle.mol_resolve.proofs.file_reader.FileReader.read_file.Goals as goal
-use Rattle.mol_sources.specs.Sources.{file_of, files_of}
+use Rattle.mol_resolve_members.specs.sources.Sources.{file_of, files_of}
 
 -- What is met in the file: the faults of its class and between members, then those of what its class extends, then those in members.
 pub returns-clause-fault : goal.returns-clause-fault

@@ -1,11 +1,11 @@
 use Rattle.std.proofs.Common.{List, subst}
 use Rattle.jav_scope.specs.declared.source.SourceUnit.{SourceUnit}
-use Rattle.mol_names.specs.InMember.{reader_of}
-use Rattle.mol_places.specs.Listings.{key_of}
+use Rattle.mol_resolve_names.specs.names.InMember.{reader_of}
+use Rattle.mol_resolve_members.specs.places.Listings.{key_of}
 use Rattle.mol_resolve.proofs.AtPlaces.{member-added, reads-at}
 use Rattle.mol_resolve.proofs.file_reader.FileReader.read_member.Goals as goal
 use Rattle.mol_resolve.specs.ReadAtPlaces.{ReadsAt}
-use Rattle.mol_sources.specs.Sources.{files_of}
+use Rattle.mol_resolve_members.specs.sources.Sources.{files_of}
 
 pub made-requires-clause-names : goal.made-requires-clause-names
 made-requires-clause-names c =

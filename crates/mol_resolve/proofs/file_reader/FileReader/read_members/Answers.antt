@@ -1,10 +1,10 @@
 use Rattle.std.proofs.Common.{ℕ, List, ap, arith, get_or, length, subst, sym, ◌∙◌}
 use Rattle.jav_tree.specs.declared.unit.Member.{Member}
-use Rattle.mol_numbers.specs.Members.{IsMember}
+use Rattle.mol_resolve_members.specs.numbers.Members.{IsMember}
 use Rattle.mol_resolve.proofs.AtPlaces.{all-added, all-noted, is_member, none-read, one-read}
 use Rattle.mol_resolve.proofs.file_reader.FileReader.read_members.Goals as goal
 use Rattle.mol_resolve.specs.ReadAtPlaces.{IsMemberAdded}
-use Rattle.mol_sources.specs.Sources.{files_of}
+use Rattle.mol_resolve_members.specs.sources.Sources.{files_of}
 
 pub loop-place-init : goal.loop-place-init
 loop-place-init c =

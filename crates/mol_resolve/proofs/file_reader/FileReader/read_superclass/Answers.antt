@@ -1,14 +1,14 @@
 use Rattle.std.proofs.Common.{◌∙◌, List, ap, option_map, refl, slice_get, subst}
 use Rattle.jav_scope.specs.declared.source.SourceUnit.{SourceUnit}
-use Rattle.mol_file_members.proofs.Outcomes.{made_read}
-use Rattle.mol_meant.specs.Kept.{view_reading}
-use Rattle.mol_member_entities.specs.Headings.{tree_in, tree_read}
-use Rattle.mol_file_members.proofs.MaybeThere.{none-read, some-read}
-use Rattle.mol_reads.specs.Reads.{Reads}
+use Rattle.mol_resolve_expr.proofs.Outcomes.{made_read}
+use Rattle.mol_resolve_readings.specs.meant.Kept.{view_reading}
+use Rattle.mol_resolve_entities.specs.member_entities.Headings.{tree_in, tree_read}
+use Rattle.mol_resolve.proofs.file_members_lemmas.MaybeThere.{none-read, some-read}
+use Rattle.mol_resolve_readings.specs.reads.Reads.{Reads}
 use Rattle.mol_resolve.proofs.file_reader.FileReader.read_superclass.Goals as goal
-use Rattle.mol_sources.specs.Sources.{file_of, files_of}
-use Rattle.mol_spell.specs.ReadFiles.{file_reader}
-use Rattle.mol_spell.specs.ReadTypes.{read_type}
+use Rattle.mol_resolve_members.specs.sources.Sources.{file_of, files_of}
+use Rattle.mol_resolve_rules.specs.ReadFiles.{file_reader}
+use Rattle.mol_resolve_rules.specs.ReadTypes.{read_type}
 
 pub returns-in-None : goal.returns-in-None
 returns-in-None c = λ source stands.

@@ -1,7 +1,7 @@
 use Rattle.std.proofs.Common.{◌∙◌, ap}
 use Rattle.std.specs.List.{list_all}
 use Rattle.mol_renames.specs.Addresses.{is_named}
-use Rattle.mol_files.specs.Files.{file_pairs}
+use Rattle.mol_base.specs.Files.{file_pairs}
 use Rattle.mol_renames.proofs.BaseNames.{all_named}
 use Rattle.mol_top.proofs.renames.base.base_in.Goals as goal
 

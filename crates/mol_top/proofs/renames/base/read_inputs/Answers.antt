@@ -1,7 +1,7 @@
 use Rattle.std.proofs.Common.{arith, ◌∙◌, ap, sym, inl, inr}
 use Rattle.std.specs.Prelude.{Some}
 use Rattle.std.proofs.lemmas.Result.{err_from_is_err_and}
-use Rattle.mol_files.specs.Files.{file_pairs}
+use Rattle.mol_base.specs.Files.{file_pairs}
 use Rattle.mol_top.specs.Carried.{IsInput, IsInOut, IsInside, IsRead, NoPath}
 use Rattle.mol_top.specs.Command.{merge_paths}
 use Rattle.mol_top.specs.Outside.{store}

@@ -1,6 +1,0 @@
-//! What is printed is read again.
-#![tactic(auto)]
-
-mod again;
-
-pub use again::{Unread, read_again};

@@ -1,6 +1,0 @@
-//! The ancestors of classes: the classes that going up over superclasses meets.
-#![tactic(auto)]
-
-mod ancestors;
-
-pub use ancestors::{is_ancestor, next_up};

@@ -1,4 +1,0 @@
-use Rattle.jav_expr.proofs.expr.+expr.Given as goal
-
-abbrev pub decreases-expr : goal.decreases-expr
-decreases-expr l = l.top

@@ -1,6 +1,0 @@
-use Rattle.std.proofs.Common.{◌∙◌}
-use Rattle.jav_height.proofs.MeasuredExpressions.{heights_measured}
-use Rattle.jav_height.proofs.expr.tallest.Goals as goal
-
-pub returns : goal.returns
-returns c = c.highest.ensures ∙ heights_measured c.args.items.now

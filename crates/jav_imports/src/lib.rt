@@ -1,7 +1,0 @@
-//! The imports of a source file, by their simple names.
-#![tactic(auto)]
-
-mod entries;
-mod import_index;
-
-pub use import_index::ImportIndex;

@@ -1,0 +1,4 @@
+pub mod layout
+pub mod pieces
+pub mod places
+pub mod printable

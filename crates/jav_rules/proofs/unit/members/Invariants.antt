@@ -1,6 +1,0 @@
-use Rattle.std.proofs.Common.{◌≡◌, ◌-◌, ◌≤◌, ◌<◌, Some, []}
-use Rattle.jav_rules.specs.UnitRules.{members}
-use Rattle.jav_rules.proofs.unit.members.Given as goal
-
-abbrev pub invariant-loop-turn : goal.invariant-loop-turn
-invariant-loop-turn l = members l.limits l.top (Some l.class) l.limits.turns [] l.fn.tokens ≡ members l.limits l.top (Some l.class) (l._turn-end - l._turn) l.items l.tokens

@@ -1,6 +1,0 @@
-use Rattle.std.proofs.Common.{◌≡◌, ◌-◌, ◌≤◌, ◌<◌, Some, []}
-use Rattle.jav_rules.specs.WordRules.{words, fit_member, no_words}
-use Rattle.jav_rules.proofs.words.member_words.Given as goal
-
-abbrev pub invariant-loop-turn : goal.invariant-loop-turn
-invariant-loop-turn l = words fit_member l.fn.limits.turns no_words l.fn.tokens ≡ words fit_member (l._turn-end - l._turn) l.all l.tokens

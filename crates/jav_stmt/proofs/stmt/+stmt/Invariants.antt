@@ -1,4 +1,0 @@
-use Rattle.jav_stmt.proofs.stmt.+stmt.Given as goal
-
-abbrev pub decreases-stmt : goal.decreases-stmt
-decreases-stmt l = l.top

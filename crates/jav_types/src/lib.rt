@@ -1,9 +1,0 @@
-//! Types as the rules on names look at them, and the static types of values: their definitions are those of `jav_view`, with the
-//! numbers of source files as the keys of classes.
-#![tactic(auto)]
-
-mod seen_type;
-mod static_type;
-
-pub use seen_type::SeenType;
-pub use static_type::StaticType;

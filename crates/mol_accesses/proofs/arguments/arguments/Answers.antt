@@ -1,7 +1,0 @@
-use Rattle.mol_accesses.proofs.arguments.arguments.Goals as goal
-use Rattle.mol_spell.specs.ReadTrees.{arguments_of}
-use Rattle.std.proofs.Common.{Some, option_map, ap, sym, ◌∙◌}
-
-pub returns-in_ok-args-in-Some : goal.returns-in_ok-args-in-Some
-returns-in_ok-args-in-Some c = λ reader declared over is. ap (λ args. Some args) (c.in_ok-args-in-Some.ensures reader declared over is)
-    ∙ ap (option_map (arguments_of reader declared)) (sym c.in-Some.is)

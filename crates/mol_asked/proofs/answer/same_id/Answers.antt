@@ -1,6 +1,0 @@
-use Rattle.std.proofs.Common.{◌∙◌}
-use Rattle.mol_values.proofs.Ties.{id_ties}
-use Rattle.mol_asked.proofs.answer.same_id.Goals as goal
-
-pub returns : goal.returns
-returns c = c.eq.ensures ∙ id_ties c.args.first.now c.args.second.now

@@ -1,5 +1,0 @@
-mod Here
-pub mod KindsNoted
-mod Owners
-mod Tests
-pub mod BesideNoted

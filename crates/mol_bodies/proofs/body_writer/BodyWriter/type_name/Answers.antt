@@ -1,6 +1,0 @@
-use Rattle.std.proofs.lemmas.Result.{IfOk-weaker}
-use Rattle.mol_bodies.proofs.body_writer.BodyWriter.type_name.Goals as goal
-use Rattle.mol_spelling.specs.Writers.{type_asked}
-
-pub returns : goal.returns
-returns g c = IfOk-weaker c.type_name.result _ _ (λ tree is. is (λ text. type_asked text)) c.type_name.ensures

@@ -1,9 +1,0 @@
-use Rattle.std.proofs.lemmas.Result.{on_ok_weaker}
-use Rattle.mol_body_locals.specs.Kept.{locals_of}
-use Rattle.mol_body_misreads.proofs.ValueParts.{body-noted}
-use Rattle.mol_body_misreads.proofs.body_reader.BodyReader.note_body.Goals as goal
-
-pub returns : goal.returns
-returns g c =
-    on_ok_weaker c.note_block.result (body-noted (g.P.Places.writer c.args.self.now.places.now) c.args.body.now
-    (locals_of c.new-locals.result) _ c.args.misreads.now _ c.new-locals.ensures) c.note_block.ensures

@@ -1,9 +1,0 @@
-use Rattle.std.proofs.lemmas.Result.{on_ok_weaker}
-use Rattle.mol_body_locals.specs.Kept.{locals_of}
-use Rattle.mol_body_misreads.proofs.ValueParts.{field-noted}
-use Rattle.mol_body_misreads.proofs.body_reader.BodyReader.note_first_value.Goals as goal
-
-pub returns : goal.returns
-returns g c =
-    on_ok_weaker c.note_maybe.result (field-noted (g.P.Places.writer c.args.self.now.places.now) c.args.ty.now c.args.init.now
-    (locals_of c.new-locals.result) c.args.misreads.now _ _ c.new-locals.ensures c.in_ok-note_header_type.ensures) c.note_maybe.ensures

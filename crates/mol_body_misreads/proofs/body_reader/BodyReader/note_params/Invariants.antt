@@ -1,9 +1,0 @@
-use Rattle.std.proofs.Common.{◌≡◌, take}
-use Rattle.mol_body_misreads.proofs.body_reader.BodyReader.note_params.Given as goal
-use Rattle.mol_body_misreads.specs.PartReferences.{params_references}
-use Rattle.mol_expr_misreads.specs.Noted.{noted_after}
-
-abbrev pub invariant-loop-param : goal.invariant-loop-param
-invariant-loop-param g l =
-    let writer = g.P.Places.writer l.self.places.now in
-    l.misreads ≡ noted_after writer l.initial.misreads (params_references writer (take l.param-index l.params))

@@ -1,4 +1,0 @@
-use Rattle.mol_body_misreads.proofs.body_reader.BodyReader.read_expr.Goals as goal
-
-pub note_expr-requires : goal.note_expr-requires
-note_expr-requires g c = c.place_beside.ensures

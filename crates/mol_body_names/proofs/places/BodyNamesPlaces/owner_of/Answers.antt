@@ -1,6 +1,0 @@
-use Rattle.std.proofs.Common.{◌∙◌, ap}
-use Rattle.mol_body_names.proofs.places.BodyNamesPlaces.owner_of.Goals as goal
-use Rattle.mol_table.specs.Program.{Program, owner_at}
-
-pub returns : goal.returns
-returns g c = c.owner_of.ensures ∙ ap (λ (program : Program). owner_at program c.args.field.now) c.table.ensures

@@ -1,2 +1,0 @@
-pub use Rattle.mol_written.specs.Importables
-pub mod Statements

@@ -1,8 +1,0 @@
-pub use Rattle.mol_uses.proofs.Added
-pub mod DeclarationUses
-pub mod DeclaredTypes
-pub mod InTurn
-pub mod LoopUses
-pub mod Marks
-pub mod StatementUses
-pub mod ValueUses

@@ -1,6 +1,0 @@
-use Rattle.std.proofs.lemmas.Result.{on_ok_weaker}
-use Rattle.mol_body_uses.proofs.body_uses.BodyUses.add_test_and_steps.Goals as goal
-use Rattle.mol_uses.proofs.Added.{adds-both}
-
-pub returns : goal.returns
-returns g c = on_ok_weaker c.add_all.result (adds-both c.args.uses.now _ _ _ _ c.in_ok-add_maybe.ensures) c.add_all.ensures

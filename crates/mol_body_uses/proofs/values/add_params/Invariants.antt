@@ -1,7 +1,0 @@
-use Rattle.std.proofs.Common.{◌≡◌, ◌++◌, take}
-use Rattle.mol_body_uses.proofs.values.add_params.Given as goal
-use Rattle.mol_body_uses.specs.PartUses.{params_uses}
-use Rattle.mol_spelling.specs.Writers.{Writer}
-
-abbrev pub invariant-loop-param : goal.invariant-loop-param
-invariant-loop-param l = (writer : Writer) → l.uses ≡ l.initial.uses ++ params_uses writer (take l.param-index l.params)

@@ -1,1 +1,0 @@
-pub use Rattle.mol_spell.proofs.Stands

@@ -1,3 +1,0 @@
-mod ChainsBegun
-pub mod LocalsNamed
-pub mod ParameterPlaces

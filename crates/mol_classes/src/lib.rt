@@ -1,9 +1,0 @@
-//! The classes of a table by their full names, and what each of them extends.
-#![tactic(auto)]
-
-mod class_index;
-mod entries;
-mod superclasses;
-
-pub use class_index::ClassIndex;
-pub use superclasses::superclass_of;

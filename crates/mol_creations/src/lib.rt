@@ -1,8 +1,0 @@
-//! The classes of which values of a program create objects by their default constructors.
-#![tactic(auto)]
-
-mod bodies;
-mod exprs;
-mod values;
-
-pub use values::default_creations;

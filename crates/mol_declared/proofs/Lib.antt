@@ -1,9 +1,0 @@
-pub use Rattle.mol_classes.proofs.LivingClasses
-pub mod ConstructorsFound
-pub mod DeclaringFound
-pub mod EntriesMade
-pub mod MembersAdded
-pub mod MembersFound
-pub mod OwnersNamed
-pub mod OwnersNear
-pub mod OwnersPlaced

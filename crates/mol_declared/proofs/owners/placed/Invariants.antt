@@ -1,6 +1,0 @@
-use Rattle.std.proofs.Common.{◌≡◌, map, take}
-use Rattle.mol_declared.specs.Owners.{with_position}
-use Rattle.mol_declared.proofs.owners.placed.Given as goal
-
-abbrev pub invariant-loop-owner : goal.invariant-loop-owner
-invariant-loop-owner l = l.placed.items ≡ map (with_position l.paths.positions.entries) (take l.owner-index l.owners)

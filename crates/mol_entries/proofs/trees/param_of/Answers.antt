@@ -1,9 +1,0 @@
-use Rattle.std.proofs.Common.{refl}
-use Rattle.mol_entries.proofs.Refusals.{refused}
-use Rattle.mol_entries.proofs.trees.param_of.Goals as goal
-
-pub returns-in_err-ty : goal.returns-in_err-ty
-returns-in_err-ty c = refused _ _ c.from_residual.result _ c.from_residual.ensures.1 c.in_err-ty.ensures
-
-pub returns : goal.returns
-returns c = record { id = refl; name = refl; ty = c.in_ok-ty.ensures; filler = refl }

@@ -1,6 +1,0 @@
-use Rattle.mol_words.specs.declared.type_role.TypeRole.TheVariants.{Value}
-use Rattle.mol_entries.proofs.Refusals.{type-seen}
-use Rattle.mol_entries.proofs.trees.value_type.Goals as goal
-
-pub returns : goal.returns
-returns c = type-seen Value c.args.words.now _ c.read_type.result c.items.ensures c.read_type.ensures

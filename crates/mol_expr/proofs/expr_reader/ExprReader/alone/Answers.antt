@@ -1,6 +1,0 @@
-use Rattle.std.proofs.Common.{None, refl}
-use Rattle.std.proofs.lemmas.Result.{IfOk-weaker}
-use Rattle.mol_expr.proofs.expr_reader.ExprReader.alone.Goals as goal
-
-pub returns : goal.returns
-returns g c = IfOk-weaker c.value.result _ _ (λ value read. read None refl) c.value.ensures

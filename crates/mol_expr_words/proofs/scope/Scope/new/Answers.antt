@@ -1,7 +1,0 @@
-use Rattle.std.proofs.Common.{List, ℕ, subst, sym}
-use Rattle.mol_expr_words.specs.Scope.{AreInOrder}
-use Rattle.mol_expr_words.proofs.Locals.{none_in_order}
-use Rattle.mol_expr_words.proofs.scope.Scope.new.Goals as goal
-
-pub invariant_of-result : goal.invariant_of-result
-invariant_of-result c = subst (λ (xs : List ℕ). AreInOrder xs 0) (sym c.new-locals.ensures.items) (none_in_order 0)

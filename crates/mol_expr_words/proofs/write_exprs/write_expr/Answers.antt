@@ -1,7 +1,0 @@
-use Rattle.std.proofs.Common.{arith, rules}
-use Rattle.std.proofs.lemmas.Grind.{common_steps}
-use Rattle.mol_expr_words.proofs.WrittenExpressions.{form_of}
-use Rattle.mol_expr_words.proofs.write_exprs.write_expr.Goals as goal
-
-pub returns-clause-form : goal.returns-clause-form
-returns-clause-form c = form_of c.args.e.now _ (first_of (search rules, grind (arith, common_steps)))

@@ -1,0 +1,11 @@
+pub use Rattle.mol_scope.proofs.asked_lemmas.AnswersTested
+pub mod CutNames
+pub mod FollowersKept
+pub mod ModeFree
+pub mod NamesAdded
+pub mod Nodes
+pub mod NotedMore
+pub mod ReadHere
+pub mod SimpleNames
+pub mod TypeNames
+pub mod VariableModes

@@ -1,0 +1,2 @@
+pub mod creations_lemmas
+pub mod mentions_lemmas

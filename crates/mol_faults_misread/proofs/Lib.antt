@@ -1,0 +1,2 @@
+pub mod body_misreads_lemmas
+pub mod misread_faults_lemmas

@@ -1,0 +1,16 @@
+use Rattle.std.proofs.Common.{ap, option_copied}
+use Rattle.std.proofs.lemmas.Result.{on_ok_weaker}
+use Rattle.mol_faults_misread.proofs.body_misreads_lemmas.Noting.{notes, notes-none}
+use Rattle.mol_faults_misread.proofs.body_misreads.body_reader.BodyReader.note_value.Goals as goal
+use Rattle.mol_spell_rules.specs.UnitCells.{references_in}
+
+pub returns-in-Some : goal.returns-in-Some
+returns-in-Some g c =
+    let writer = g.P.Places.writer c.args.self.now.places.now in
+    on_ok_weaker c.note_held.result (notes writer c.args.misreads.now _ _ _
+    (ap (λ value. references_in writer (option_copied value)) c.in-Some.is)) c.note_held.ensures
+
+pub returns-in-None : goal.returns-in-None
+returns-in-None g c =
+    let writer = g.P.Places.writer c.args.self.now.places.now in
+    notes-none writer c.args.misreads.now _ (ap (λ value. references_in writer (option_copied value)) c.in-None.is)

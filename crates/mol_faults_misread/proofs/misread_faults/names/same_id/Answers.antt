@@ -1,0 +1,6 @@
+use Rattle.std.proofs.Common.{◌∙◌}
+use Rattle.mol_values.proofs.Ties.{id_ties}
+use Rattle.mol_faults_misread.proofs.misread_faults.names.same_id.Goals as goal
+
+pub returns : goal.returns
+returns c = c.eq.ensures ∙ id_ties c.args.first.now c.args.second.now

@@ -1,0 +1,2 @@
+pub mod body_misreads
+pub mod misread_faults

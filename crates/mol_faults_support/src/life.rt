@@ -1,0 +1,63 @@
+//! The cells that say whether something lives.
+ghost use Rattle.std.specs.Prelude.{◌≡◌, ◌++◌, ◌↔◌, Contains, IfOk, OnOk};
+ghost use Rattle.std.specs.FinMap as map;
+ghost use Rattle.std.specs.List.{flat_map};
+ghost use Rattle.mol_faults_support.specs.Cells.{own_life};
+ghost use Rattle.mol_faults_support.specs.Rests.{AreLives};
+ghost use Rattle.mol_values.specs.Slots.{has_slot};
+ghost use Rattle.mol_values.specs.declared.cell.Slot.TheVariants as slots;
+
+use crate::declarations::{declarations_of, set_of};
+use crate::slots::{add_cell, add_lives};
+use mol_base::{Id, OutOfMemory};
+use mol_table::Table;
+use mol_values::{Cell, Known, Slot};
+use std::alloc::Global;
+
+/// The cells that say whether these live; those of a method are those of its declarations.
+pub(crate) fn lives(alloc: Global, table: &Table, ids: &[Id]) -> Result<Vec<Cell>, OutOfMemory>
+    ensures { IfOk result (λ cells. AreLives table.now ids.now cells.items) }
+{
+    let methods = set_of(alloc, ids)?;
+    let found = declarations_of(alloc, table, &methods)?;
+    let declarations = found.as_slice();
+    let mut cells = Vec::new(alloc);
+    add_own_lives(&mut cells, table, ids)?;
+    add_lives(&mut cells, declarations)?;
+    Ok(cells)
+}
+
+/// Adds the cells `live` of those of these identities that have one.
+fn add_own_lives(cells: &mut Vec<Cell>, table: &Table, ids: &[Id]) -> Result<(), OutOfMemory>
+    ensures { OnOk result (cells.new.items ≡ cells.old.items ++ flat_map (own_life table.now) ids.now) }
+{
+    for id in ids {
+        add_own_life(cells, table, id)?;
+    }
+    Ok(())
+}
+
+/// Adds the cell `live` of an identity, where it has one.
+fn add_own_life(cells: &mut Vec<Cell>, table: &Table, id: &Id) -> Result<(), OutOfMemory>
+    ensures { OnOk result (cells.new.items ≡ cells.old.items ++ own_life table.now id.now) }
+{
+    if has_life(table, id) {
+        add_cell(cells, id, Slot::Live)
+    } else {
+        Ok(())
+    }
+}
+
+/// Whether an identity has a cell `live`: a method and a parameter have none.
+fn has_life(table: &Table, id: &Id) -> bool
+    ensures { result ≡ has_slot (map.get table.now.known id.now) slots.Live }
+{
+    match table.known(*id) {
+        Some(Known::Class) => true,
+        Some(Known::Method(_)) => false,
+        Some(Known::Decl(_)) => true,
+        Some(Known::Field) => true,
+        Some(Known::Param(_)) => false,
+        None => false,
+    }
+}

@@ -1,0 +1,2 @@
+pub mod local_faults
+pub mod missing_faults

@@ -1,2 +1,0 @@
-pub use Rattle.mol_stmt.proofs.Outcomes
-pub mod MaybeThere

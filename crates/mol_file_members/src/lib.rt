@@ -1,6 +1,0 @@
-//! Members of source files, read as the entities that they are. What names mean at their places, an implementation of `Names` answers.
-#![tactic(auto)]
-
-mod member_reader;
-
-pub use member_reader::MemberReader;

@@ -1,2 +1,0 @@
-pub use Rattle.mol_body_names.specs.FilePlaces
-pub mod CellUses

@@ -1,2 +1,0 @@
-//! Source files as contracts see them: paths with bytes. It has definitions alone.
-#![tactic(auto)]

@@ -1,6 +1,0 @@
-//! The faults of the header of a source file, noted among those of the file.
-#![tactic(auto)]
-
-mod header_faults;
-
-pub use header_faults::HeaderFaults;

@@ -1,8 +1,0 @@
-use Rattle.std.proofs.Common.{◌≡◌, map, take}
-use Rattle.jav_view.specs.UnitViews.{numbered}
-use Rattle.mol_spell.specs.FaultKinds.{package_is_class}
-use Rattle.mol_headers.specs.Headers.{fails}
-use Rattle.mol_headers.proofs.package_classes.packages.Given as goal
-
-abbrev pub invariant-loop-source : goal.invariant-loop-source
-invariant-loop-source l = l.packages.items ≡ map (fails l.sources package_is_class) (numbered (take l.source-index l.sources))

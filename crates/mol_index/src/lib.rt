@@ -1,8 +1,0 @@
-//! Look-ups of identities by an owner, a number of parameters and a name, in a sorted list.
-#![tactic(auto)]
-
-mod entry;
-mod index;
-
-pub use entry::{Entry, add_entry};
-pub use index::Index;

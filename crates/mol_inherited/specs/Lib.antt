@@ -1,2 +1,0 @@
-pub use Rattle.mol_declared.specs.Indexed
-pub mod Soughts

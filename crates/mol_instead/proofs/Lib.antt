@@ -1,8 +1,0 @@
-pub use Rattle.mol_asked.proofs.AnswersTested
-pub mod ClassPaths
-pub mod Members
-pub mod NamesCut
-pub mod ReadsOn
-pub mod Said
-pub mod SaidInstead
-pub mod Words

@@ -1,3 +1,0 @@
-pub use Rattle.mol_variables.proofs.SupersFound
-pub mod NamesSpelled
-pub mod FirstRead

@@ -1,7 +1,0 @@
-use Rattle.mol_lines.proofs.Refused.{gives_err}
-use Rattle.mol_lines.proofs.TagLists.{tags_refused}
-use Rattle.mol_lines.proofs.header.tags_of.Goals as goal
-
-pub returns-in_err-tags : goal.returns-in_err-tags
-returns-in_err-tags c =
-    gives_err _ c.from_residual.result _ c.from_residual.ensures.1 (λ wrong. tags_refused c.args.texts.now (c.in_err-tags.ensures wrong))

@@ -1,8 +1,0 @@
-use Rattle.std.proofs.Common.{[], ◌∷◌, ◌++◌, ◌∙◌, ap}
-use Rattle.mol_local_faults.proofs.clashing.add_name.Goals as goal
-use Rattle.mol_local_faults.specs.Clashing.{clash_of}
-
-pub returns : goal.returns
-returns c =
-    c.in_ok-push.ensures.items
-    ∙ ap (λ name. c.args.clashes.now.items ++ clash_of c.args.declaration.now name ∷ []) c.in_ok-name.ensures

@@ -1,5 +1,0 @@
-use Rattle.mol_locals.proofs.ScopeKept.{nothing-stands}
-use Rattle.mol_locals.proofs.locals.Locals.new.Goals as goal
-
-pub invariant_of-result : goal.invariant_of-result
-invariant_of-result c = rw (c.new.ensures.items, c.new-2.ensures.items, c.new-3.ensures.empty) nothing-stands

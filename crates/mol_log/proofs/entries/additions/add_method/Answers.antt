@@ -1,0 +1,40 @@
+use Rattle.std.proofs.Common.{refl, ◌∷◌}
+use Rattle.mol_log_words.specs.declared.type_role.TypeRole.TheVariants.{Result}
+use Rattle.mol_log.proofs.entries_lemmas.GoodParts.{params_good}
+use Rattle.mol_log.proofs.entries_lemmas.Refusals.{refused, fails-before, fails-after}
+use Rattle.mol_log.proofs.entries_lemmas.SpelledForms.{add_method_kept}
+use Rattle.mol_log.specs.entries.Spelling as spelling
+use Rattle.mol_log.specs.entries.Trees as part
+use Rattle.mol_log.specs.entries.Trees.{maybe, param_types}
+use Rattle.mol_log.proofs.entries.additions.add_method.Goals as goal
+
+pub returns-in_err-result : goal.returns-in_err-result
+returns-in_err-result c =
+    refused _ _ c.from_residual.result _ c.from_residual.ensures.1
+    (fails-before (part.type Result c.args.row.result ∷ param_types c.args.row.params) (maybe part.body c.args.row.body) _
+    c.in_err-result.ensures)
+
+pub returns-in_err-body : goal.returns-in_err-body
+returns-in_err-body c =
+    refused _ _ c.from_residual-in_err-body.result _ c.from_residual-in_err-body.ensures.1
+    (fails-after (part.type Result c.args.row.result ∷ param_types c.args.row.params) (maybe part.body c.args.row.body) _
+    ((_, c.in_ok-result.ensures.0), params_good _ _ c.in_ok-result.ensures.1) c.in_err-body.ensures)
+
+pub invariant_of-result : goal.invariant_of-result
+invariant_of-result c = record {
+  formed = add_method_kept c.args.row _ _ _ c.requires c.in_ok-result.ensures.0 c.in_ok-result.ensures.1 c.in_ok-body.ensures;
+}
+
+pub returns : goal.returns
+returns c = spelling.add_method (record {
+  method = refl;
+  decl = refl;
+  owner = refl;
+  name = refl;
+  kind = refl;
+  result = c.in_ok-result.ensures.0;
+  params = c.in_ok-result.ensures.1;
+  words = refl;
+  notes = refl;
+  body = c.in_ok-body.ensures;
+})

@@ -1,0 +1,11 @@
+use Rattle.mol_log_rows.specs.lines.Reader.{maybe_from}
+use Rattle.mol_log_rows.proofs.lines_lemmas.Refused.{reads_err}
+use Rattle.mol_log_rows.proofs.lines_lemmas.Taken.{reads_with, part_without}
+use Rattle.mol_log_rows.proofs.lines.members.Members.maybe_texts.Goals as goal
+
+pub returns-in_err-part : goal.returns-in_err-part
+returns-in_err-part c =
+    reads_err _ c.from_residual.result _ _ c.from_residual.ensures.1 (λ wrong. part_without c.args.key.now maybe_from _ c.in_err-part.ensures)
+
+pub returns : goal.returns
+returns c = reads_with c.args.key.now maybe_from _ _ _ c.maybe_texts.result c.in_ok-part.ensures c.maybe_texts.ensures

@@ -1,0 +1,70 @@
+use Rattle.std.proofs.Common.{◌∙◌}
+use Rattle.mol_log_rows.proofs.lines_lemmas.Refused.{reads_err}
+use Rattle.mol_log_rows.proofs.rows_lemmas.Steps.{and_on, and_off}
+use Rattle.mol_log_rows.proofs.rows.read.add_class.Goals as goal
+
+pub returns-in_err-class : goal.returns-in_err-class
+returns-in_err-class c =
+    reads_err _ c.from_residual.result _ _ c.from_residual.ensures.1
+    (λ wrong. and_off _ _ (c.in_err-class.ensures wrong))
+
+pub returns-in_err-name : goal.returns-in_err-name
+returns-in_err-name c =
+    reads_err _ c.from_residual-in_err-name.result _ _ c.from_residual-in_err-name.ensures.1
+    (λ wrong. and_on _ _ _ _ c.in_ok-class.ensures
+    ∙ and_off _ _ (c.in_err-name.ensures wrong))
+
+pub returns-in_err-notes : goal.returns-in_err-notes
+returns-in_err-notes c =
+    reads_err _ c.from_residual-in_err-notes.result _ _ c.from_residual-in_err-notes.ensures.1
+    (λ wrong. and_on _ _ _ _ c.in_ok-class.ensures
+    ∙ and_on _ _ _ _ c.in_ok-name.ensures
+    ∙ and_off _ _ (c.in_err-notes.ensures wrong))
+
+pub returns-in_err-same_text : goal.returns-in_err-same_text
+returns-in_err-same_text c =
+    reads_err _ c.from_residual-in_err-same_text.result _ _ c.from_residual-in_err-same_text.ensures.1
+    (λ wrong. and_on _ _ _ _ c.in_ok-class.ensures
+    ∙ and_on _ _ _ _ c.in_ok-name.ensures
+    ∙ and_on _ _ _ _ c.in_ok-notes.ensures
+    ∙ and_off _ _ (c.in_err-same_text.ensures wrong))
+
+pub returns-in_err-package : goal.returns-in_err-package
+returns-in_err-package c =
+    reads_err _ c.from_residual-in_err-package.result _ _ c.from_residual-in_err-package.ensures.1
+    (λ wrong. and_on _ _ _ _ c.in_ok-class.ensures
+    ∙ and_on _ _ _ _ c.in_ok-name.ensures
+    ∙ and_on _ _ _ _ c.in_ok-notes.ensures
+    ∙ and_on _ _ _ _ c.in_ok-same_text.ensures
+    ∙ and_off _ _ (c.in_err-package.ensures wrong))
+
+pub returns-in_err-parent : goal.returns-in_err-parent
+returns-in_err-parent c =
+    reads_err _ c.from_residual-in_err-parent.result _ _ c.from_residual-in_err-parent.ensures.1
+    (λ wrong. and_on _ _ _ _ c.in_ok-class.ensures
+    ∙ and_on _ _ _ _ c.in_ok-name.ensures
+    ∙ and_on _ _ _ _ c.in_ok-notes.ensures
+    ∙ and_on _ _ _ _ c.in_ok-same_text.ensures
+    ∙ and_on _ _ _ _ c.in_ok-package.ensures
+    ∙ and_off _ _ (c.in_err-parent.ensures wrong))
+
+pub returns-in_err-words : goal.returns-in_err-words
+returns-in_err-words c =
+    reads_err _ c.from_residual-in_err-words.result _ _ c.from_residual-in_err-words.ensures.1
+    (λ wrong. and_on _ _ _ _ c.in_ok-class.ensures
+    ∙ and_on _ _ _ _ c.in_ok-name.ensures
+    ∙ and_on _ _ _ _ c.in_ok-notes.ensures
+    ∙ and_on _ _ _ _ c.in_ok-same_text.ensures
+    ∙ and_on _ _ _ _ c.in_ok-package.ensures
+    ∙ and_on _ _ _ _ c.in_ok-parent.ensures
+    ∙ and_off _ _ (c.in_err-words.ensures wrong))
+
+pub returns : goal.returns
+returns c =
+    and_on _ _ _ _ c.in_ok-class.ensures
+    ∙ and_on _ _ _ _ c.in_ok-name.ensures
+    ∙ and_on _ _ _ _ c.in_ok-notes.ensures
+    ∙ and_on _ _ _ _ c.in_ok-same_text.ensures
+    ∙ and_on _ _ _ _ c.in_ok-package.ensures
+    ∙ and_on _ _ _ _ c.in_ok-parent.ensures
+    ∙ and_on _ _ _ _ c.in_ok-words.ensures

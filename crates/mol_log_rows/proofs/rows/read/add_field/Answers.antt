@@ -1,0 +1,83 @@
+use Rattle.std.proofs.Common.{◌∙◌}
+use Rattle.mol_log_rows.proofs.lines_lemmas.Refused.{reads_err}
+use Rattle.mol_log_rows.proofs.rows_lemmas.Steps.{and_on, and_off}
+use Rattle.mol_log_rows.proofs.rows.read.add_field.Goals as goal
+
+pub returns-in_err-field : goal.returns-in_err-field
+returns-in_err-field c =
+    reads_err _ c.from_residual.result _ _ c.from_residual.ensures.1
+    (λ wrong. and_off _ _ (c.in_err-field.ensures wrong))
+
+pub returns-in_err-name : goal.returns-in_err-name
+returns-in_err-name c =
+    reads_err _ c.from_residual-in_err-name.result _ _ c.from_residual-in_err-name.ensures.1
+    (λ wrong. and_on _ _ _ _ c.in_ok-field.ensures
+    ∙ and_off _ _ (c.in_err-name.ensures wrong))
+
+pub returns-in_err-notes : goal.returns-in_err-notes
+returns-in_err-notes c =
+    reads_err _ c.from_residual-in_err-notes.result _ _ c.from_residual-in_err-notes.ensures.1
+    (λ wrong. and_on _ _ _ _ c.in_ok-field.ensures
+    ∙ and_on _ _ _ _ c.in_ok-name.ensures
+    ∙ and_off _ _ (c.in_err-notes.ensures wrong))
+
+pub returns-in_err-same_text : goal.returns-in_err-same_text
+returns-in_err-same_text c =
+    reads_err _ c.from_residual-in_err-same_text.result _ _ c.from_residual-in_err-same_text.ensures.1
+    (λ wrong. and_on _ _ _ _ c.in_ok-field.ensures
+    ∙ and_on _ _ _ _ c.in_ok-name.ensures
+    ∙ and_on _ _ _ _ c.in_ok-notes.ensures
+    ∙ and_off _ _ (c.in_err-same_text.ensures wrong))
+
+pub returns-in_err-owner : goal.returns-in_err-owner
+returns-in_err-owner c =
+    reads_err _ c.from_residual-in_err-owner.result _ _ c.from_residual-in_err-owner.ensures.1
+    (λ wrong. and_on _ _ _ _ c.in_ok-field.ensures
+    ∙ and_on _ _ _ _ c.in_ok-name.ensures
+    ∙ and_on _ _ _ _ c.in_ok-notes.ensures
+    ∙ and_on _ _ _ _ c.in_ok-same_text.ensures
+    ∙ and_off _ _ (c.in_err-owner.ensures wrong))
+
+pub returns-in_err-ty : goal.returns-in_err-ty
+returns-in_err-ty c =
+    reads_err _ c.from_residual-in_err-ty.result _ _ c.from_residual-in_err-ty.ensures.1
+    (λ wrong. and_on _ _ _ _ c.in_ok-field.ensures
+    ∙ and_on _ _ _ _ c.in_ok-name.ensures
+    ∙ and_on _ _ _ _ c.in_ok-notes.ensures
+    ∙ and_on _ _ _ _ c.in_ok-same_text.ensures
+    ∙ and_on _ _ _ _ c.in_ok-owner.ensures
+    ∙ and_off _ _ (c.in_err-ty.ensures wrong))
+
+pub returns-in_err-value : goal.returns-in_err-value
+returns-in_err-value c =
+    reads_err _ c.from_residual-in_err-value.result _ _ c.from_residual-in_err-value.ensures.1
+    (λ wrong. and_on _ _ _ _ c.in_ok-field.ensures
+    ∙ and_on _ _ _ _ c.in_ok-name.ensures
+    ∙ and_on _ _ _ _ c.in_ok-notes.ensures
+    ∙ and_on _ _ _ _ c.in_ok-same_text.ensures
+    ∙ and_on _ _ _ _ c.in_ok-owner.ensures
+    ∙ and_on _ _ _ _ c.in_ok-ty.ensures
+    ∙ and_off _ _ (c.in_err-value.ensures wrong))
+
+pub returns-in_err-words : goal.returns-in_err-words
+returns-in_err-words c =
+    reads_err _ c.from_residual-in_err-words.result _ _ c.from_residual-in_err-words.ensures.1
+    (λ wrong. and_on _ _ _ _ c.in_ok-field.ensures
+    ∙ and_on _ _ _ _ c.in_ok-name.ensures
+    ∙ and_on _ _ _ _ c.in_ok-notes.ensures
+    ∙ and_on _ _ _ _ c.in_ok-same_text.ensures
+    ∙ and_on _ _ _ _ c.in_ok-owner.ensures
+    ∙ and_on _ _ _ _ c.in_ok-ty.ensures
+    ∙ and_on _ _ _ _ c.in_ok-value.ensures
+    ∙ and_off _ _ (c.in_err-words.ensures wrong))
+
+pub returns : goal.returns
+returns c =
+    and_on _ _ _ _ c.in_ok-field.ensures
+    ∙ and_on _ _ _ _ c.in_ok-name.ensures
+    ∙ and_on _ _ _ _ c.in_ok-notes.ensures
+    ∙ and_on _ _ _ _ c.in_ok-same_text.ensures
+    ∙ and_on _ _ _ _ c.in_ok-owner.ensures
+    ∙ and_on _ _ _ _ c.in_ok-ty.ensures
+    ∙ and_on _ _ _ _ c.in_ok-value.ensures
+    ∙ and_on _ _ _ _ c.in_ok-words.ensures

@@ -1,0 +1,37 @@
+use Rattle.std.proofs.Common.{◌∙◌}
+use Rattle.mol_log_rows.proofs.lines_lemmas.Refused.{reads_err}
+use Rattle.mol_log_rows.proofs.rows_lemmas.Steps.{and_on, and_off}
+use Rattle.mol_log_rows.proofs.rows.read.change_signature.Goals as goal
+
+pub returns-in_err-method : goal.returns-in_err-method
+returns-in_err-method c =
+    reads_err _ c.from_residual.result _ _ c.from_residual.ensures.1
+    (λ wrong. and_off _ _ (c.in_err-method.ensures wrong))
+
+pub returns-in_err-same_text : goal.returns-in_err-same_text
+returns-in_err-same_text c =
+    reads_err _ c.from_residual-in_err-same_text.result _ _ c.from_residual-in_err-same_text.ensures.1
+    (λ wrong. and_on _ _ _ _ c.in_ok-method.ensures
+    ∙ and_off _ _ (c.in_err-same_text.ensures wrong))
+
+pub returns-in_err-params : goal.returns-in_err-params
+returns-in_err-params c =
+    reads_err _ c.from_residual-in_err-params.result _ _ c.from_residual-in_err-params.ensures.1
+    (λ wrong. and_on _ _ _ _ c.in_ok-method.ensures
+    ∙ and_on _ _ _ _ c.in_ok-same_text.ensures
+    ∙ and_off _ _ (c.in_err-params.ensures wrong))
+
+pub returns-in_err-result : goal.returns-in_err-result
+returns-in_err-result c =
+    reads_err _ c.from_residual-in_err-result.result _ _ c.from_residual-in_err-result.ensures.1
+    (λ wrong. and_on _ _ _ _ c.in_ok-method.ensures
+    ∙ and_on _ _ _ _ c.in_ok-same_text.ensures
+    ∙ and_on _ _ _ _ c.in_ok-params.ensures
+    ∙ and_off _ _ (c.in_err-result.ensures wrong))
+
+pub returns : goal.returns
+returns c =
+    and_on _ _ _ _ c.in_ok-method.ensures
+    ∙ and_on _ _ _ _ c.in_ok-same_text.ensures
+    ∙ and_on _ _ _ _ c.in_ok-params.ensures
+    ∙ and_on _ _ _ _ c.in_ok-result.ensures

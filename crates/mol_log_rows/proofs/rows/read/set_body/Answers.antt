@@ -1,0 +1,28 @@
+use Rattle.std.proofs.Common.{◌∙◌}
+use Rattle.mol_log_rows.proofs.lines_lemmas.Refused.{reads_err}
+use Rattle.mol_log_rows.proofs.rows_lemmas.Steps.{and_on, and_off}
+use Rattle.mol_log_rows.proofs.rows.read.set_body.Goals as goal
+
+pub returns-in_err-body : goal.returns-in_err-body
+returns-in_err-body c =
+    reads_err _ c.from_residual.result _ _ c.from_residual.ensures.1
+    (λ wrong. and_off _ _ (c.in_err-body.ensures wrong))
+
+pub returns-in_err-decl : goal.returns-in_err-decl
+returns-in_err-decl c =
+    reads_err _ c.from_residual-in_err-decl.result _ _ c.from_residual-in_err-decl.ensures.1
+    (λ wrong. and_on _ _ _ _ c.in_ok-body.ensures
+    ∙ and_off _ _ (c.in_err-decl.ensures wrong))
+
+pub returns-in_err-same_text : goal.returns-in_err-same_text
+returns-in_err-same_text c =
+    reads_err _ c.from_residual-in_err-same_text.result _ _ c.from_residual-in_err-same_text.ensures.1
+    (λ wrong. and_on _ _ _ _ c.in_ok-body.ensures
+    ∙ and_on _ _ _ _ c.in_ok-decl.ensures
+    ∙ and_off _ _ (c.in_err-same_text.ensures wrong))
+
+pub returns : goal.returns
+returns c =
+    and_on _ _ _ _ c.in_ok-body.ensures
+    ∙ and_on _ _ _ _ c.in_ok-decl.ensures
+    ∙ and_on _ _ _ _ c.in_ok-same_text.ensures

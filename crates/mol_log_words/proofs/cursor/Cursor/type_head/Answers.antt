@@ -1,0 +1,14 @@
+use Rattle.std.proofs.Common.{◌∙◌, ap}
+use Rattle.mol_log_words.specs.TypeHeads.{type_head_of}
+use Rattle.mol_log_words.proofs.Accepted.{accepted, none_left}
+use Rattle.mol_log_words.proofs.cursor.Cursor.type_head.Goals as goal
+
+pub returns-in_err-next_word : goal.returns-in_err-next_word
+returns-in_err-next_word c = none_left _ (type_head_of c.args.role c.args.deeper) c.args.self.now c.from_residual.result
+    c.in_err-next_word.ensures.none.1 c.from_residual.ensures.1
+
+pub returns : goal.returns
+returns c =
+    let found = c.type_head_of-found.ensures ∙ ap (type_head_of c.args.role c.args.deeper) c.bytes.ensures.bytes in
+    accepted (type_head_of c.args.role c.args.deeper) c.type_head_of-found.result c.in_ok-next_word.field-0.now c.args.self.now
+    c.accept.new.self c.accept.result c.in_ok-next_word.ensures.next found c.accept.ensures

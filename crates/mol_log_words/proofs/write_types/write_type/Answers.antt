@@ -1,0 +1,7 @@
+use Rattle.std.proofs.Common.{arith, rules}
+use Rattle.std.proofs.lemmas.Grind.{common_steps}
+use Rattle.mol_log_words.proofs.WrittenTypes.{form_of}
+use Rattle.mol_log_words.proofs.write_types.write_type.Goals as goal
+
+pub returns-clause-form : goal.returns-clause-form
+returns-clause-form c = form_of c.args.ty.now _ (first_of (search rules, grind (arith, common_steps)))

@@ -1,4 +1,0 @@
-mod FirstOutside
-mod NamesMeant
-mod VariablesMeant
-mod VariablesNamed

@@ -1,6 +1,0 @@
-use Rattle.std.proofs.lemmas.Result.{on_ok_weaker}
-use Rattle.mol_ordered.proofs.Added.{adds-both}
-use Rattle.mol_mentions.proofs.body.add_header.Goals as goal
-
-pub returns : goal.returns
-returns c = on_ok_weaker c.add_all.result (adds-both c.args.mentions.now _ _ _ _ c.in_ok-add_tested.ensures) c.add_all.ensures

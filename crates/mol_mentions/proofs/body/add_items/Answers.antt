@@ -1,6 +1,0 @@
-use Rattle.std.proofs.lemmas.Result.{on_ok_weaker}
-use Rattle.mol_ordered.proofs.Added.{adds-both}
-use Rattle.mol_mentions.proofs.body.add_items.Goals as goal
-
-pub returns : goal.returns
-returns c = on_ok_weaker c.add_expr.result (adds-both c.args.mentions.now _ _ _ _ c.in_ok-add_type.ensures) c.add_expr.ensures

@@ -1,7 +1,0 @@
-use Rattle.std.proofs.Common.{◌≡◌, map}
-use Rattle.mol_fault.specs.Kept.{kept_fault}
-use Rattle.mol_misread_faults.proofs.faults.faults_of.Given as goal
-use Rattle.mol_misread_faults.specs.Found.{fault_of}
-
-abbrev pub invariant-loop-row : goal.invariant-loop-row
-invariant-loop-row l = map kept_fault l.faults ≡ map fault_of l.yielded

@@ -1,6 +1,0 @@
-use Rattle.std.proofs.Common.{◌≡◌, map}
-use Rattle.mol_misread_faults.proofs.faults.rows_of.Given as goal
-use Rattle.mol_misread_faults.specs.Found.{fault_in, fault_of, kept_name}
-
-abbrev pub invariant-loop-name : goal.invariant-loop-name
-invariant-loop-name l = map fault_of l.rows.items ≡ map fault_in (map kept_name l.yielded)

@@ -1,7 +1,0 @@
-use Rattle.std.proofs.Common.{◌≡◌, ◌++◌, drop}
-use Rattle.mol_missing_faults.proofs.collected.add_slots.Given as goal
-use Rattle.mol_missing_faults.specs.Gone.{gone_in_slots}
-
-abbrev pub invariant-loop-slot : goal.invariant-loop-slot
-invariant-loop-slot l = l.gone.items ++ gone_in_slots l.table l.tidied l.id (drop l.slot-index l.slots)
-    ≡ l.initial.gone.items ++ gone_in_slots l.table l.tidied l.id l.slots

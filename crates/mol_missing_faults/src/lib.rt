@@ -1,9 +1,0 @@
-//! Faults of what is gone: a cell of what lives that refers to what does not.
-#![tactic(auto)]
-
-mod collected;
-mod faults;
-mod gone;
-mod present;
-
-pub use faults::missing;

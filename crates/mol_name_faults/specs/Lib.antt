@@ -1,4 +1,0 @@
-pub mod Kinds
-pub mod First
-pub mod Noted
-pub mod ResolveFaults

@@ -1,7 +1,0 @@
--- A fault as the code keeps it.
-use Rattle.mol_spell.specs.Outcomes.{TreeFault}
-use Rattle.mol_name_faults.specs.Kinds.{kind_of}
-use Rattle.mol_name_faults.specs.declared.first_fault.Noted.{Noted}
-
-abbrev pub noted_fault : Noted → TreeFault
-noted_fault fault = record { kind = kind_of fault.kind; at = fault.at }

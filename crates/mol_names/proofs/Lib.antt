@@ -1,6 +1,0 @@
-mod DeclaredIds
-mod GivenParams
-mod MembersRead
-mod ReadersMade
-mod ReadersOver
-mod TypesRead

@@ -1,9 +1,0 @@
-use Rattle.std.proofs.lemmas.Result.{IfOk-weaker}
-use Rattle.mol_names.proofs.ReadersOver.{reader-over}
-use Rattle.mol_names.proofs.names.MemberNamesNames.call_through.Goals as goal
-use Rattle.mol_names.specs.InMember.{reader_of}
-
-pub returns : goal.returns
-returns c =
-    let names = c.args.self.now in
-    IfOk-weaker c.call_through.result _ _ (λ value reads. reads (reader_of names) (reader-over names)) c.call_through.ensures

@@ -1,3 +1,0 @@
-mod Likeness
-mod Grouped
-mod InTurn

@@ -1,9 +1,0 @@
-use Rattle.std.proofs.Common.{length}
-use Rattle.mol_numbers.proofs.DeclarationsFound.{IsLeft}
-use Rattle.mol_numbers.proofs.last_declared.last_declared.Given as goal
-
-abbrev pub invariant-loop-rest : goal.invariant-loop-rest
-invariant-loop-rest l = IsLeft l.scope l.name l.arity l.way l.rest l.last
-
-abbrev pub decreases-loop-rest : goal.decreases-loop-rest
-decreases-loop-rest l = length l.rest

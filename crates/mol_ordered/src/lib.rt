@@ -1,6 +1,0 @@
-//! Rows in order, each once.
-#![tactic(auto)]
-
-mod ordered;
-
-pub use ordered::in_order;

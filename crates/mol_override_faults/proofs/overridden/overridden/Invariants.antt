@@ -1,9 +1,0 @@
-use Rattle.std.proofs.Common.{Contains, take}
-use Rattle.std.specs.Prelude.{◌↔◌}
-use Rattle.mol_override_faults.specs.Overridden.{IsOverAny}
-use Rattle.mol_override_faults.proofs.overridden.overridden.Given as goal
-use Rattle.mol_pair_faults.specs.declared.pair.Pair.{Pair}
-
-abbrev pub invariant-loop-row : goal.invariant-loop-row
-invariant-loop-row l = (pair : Pair)
-    → Contains l.pairs.items pair ↔ IsOverAny l.table l.orders.by_key.items (take l.row-index l.orders.by_key.items) pair

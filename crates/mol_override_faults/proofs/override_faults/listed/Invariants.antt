@@ -1,7 +1,0 @@
-use Rattle.std.proofs.Common.{◌≡◌, map, take}
-use Rattle.mol_fault.specs.Kept.{kept_fault}
-use Rattle.mol_override_faults.specs.Overridden.{override_fault}
-use Rattle.mol_override_faults.proofs.override_faults.listed.Given as goal
-
-abbrev pub invariant-loop-pair : goal.invariant-loop-pair
-invariant-loop-pair l = map kept_fault l.faults ≡ map override_fault (take l.pair-index l.pairs)

@@ -1,8 +1,0 @@
-//! Faults of packages: full names of classes that are packages, or that packages are in.
-#![tactic(auto)]
-
-mod inside;
-mod package_classes;
-mod package_rows;
-
-pub use package_classes::package_is_class;

@@ -1,7 +1,0 @@
-use Rattle.std.proofs.Common.{◌≡◌, map, take}
-use Rattle.mol_fault.specs.Kept.{kept_fault}
-use Rattle.mol_pair_faults.specs.Sharing.{address_fault}
-use Rattle.mol_pair_faults.proofs.address_faults.listed.Given as goal
-
-abbrev pub invariant-loop-pair : goal.invariant-loop-pair
-invariant-loop-pair l = map kept_fault l.faults ≡ map address_fault (take l.pair-index l.pairs)

@@ -1,6 +1,0 @@
-use Rattle.std.proofs.Common.{◌≡◌, ◌++◌, drop}
-use Rattle.mol_pair_faults.specs.Sharing.{shared_pairs}
-use Rattle.mol_pair_faults.proofs.sharing.sharing.Given as goal
-
-abbrev pub invariant-loop-place : goal.invariant-loop-place
-invariant-loop-place l = l.pairs.items ++ shared_pairs (drop l.place l.rows) ≡ shared_pairs l.rows

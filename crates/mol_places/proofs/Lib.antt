@@ -1,7 +1,0 @@
-pub use Rattle.mol_sources.proofs.Sourced
-pub mod StableOrder
-pub mod PathOrder
-pub mod OrderPlaces
-pub mod MemberPlaces
-pub mod FilesInOrder
-pub mod PlacesHeld

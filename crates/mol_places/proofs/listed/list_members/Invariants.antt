@@ -1,6 +1,0 @@
-use Rattle.std.proofs.Common.{◌≡◌, map, take, flat_map}
-use Rattle.mol_places.specs.Listings.{as_listed, members_in}
-use Rattle.mol_places.proofs.listed.list_members.Given as goal
-
-abbrev pub invariant-loop-unit : goal.invariant-loop-unit
-invariant-loop-unit l = map as_listed l.listed.items ≡ flat_map (members_in l.sources) (take l.unit-index l.order)

@@ -1,7 +1,0 @@
-use Rattle.std.proofs.Common.{◌∷◌, ◌++◌, [], sym, ◌∙◌}
-use Rattle.mol_places.proofs.OrderPlaces.{below-more}
-use Rattle.mol_places.proofs.order.numbers_of.Goals as goal
-
-pub loop-place-preserved : goal.loop-place-preserved
-loop-place-preserved c =
-    c.in_ok-push.ensures.items ∙ (λ i. c.loop-place.invariant i ++ c.in_ok-number.ensures.ok i ∷ []) ∙ sym (below-more c.loop-place.place)

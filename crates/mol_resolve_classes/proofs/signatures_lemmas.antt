@@ -1,0 +1,3 @@
+pub mod TypesOrdered
+pub mod InTurn
+pub mod Repeated

@@ -1,0 +1,5 @@
+pub mod header_faults
+pub mod headers
+pub mod namesakes
+pub mod related
+pub mod signatures

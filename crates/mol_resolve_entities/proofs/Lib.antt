@@ -1,0 +1,2 @@
+pub mod RepeatedNames
+pub mod file_entities_lemmas

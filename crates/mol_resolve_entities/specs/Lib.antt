@@ -1,0 +1,3 @@
+pub mod Parts
+pub mod file_entities
+pub mod member_entities

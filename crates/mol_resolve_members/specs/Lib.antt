@@ -1,0 +1,5 @@
+pub mod found
+pub mod members
+pub mod numbers
+pub mod places
+pub mod sources

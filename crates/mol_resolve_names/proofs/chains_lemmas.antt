@@ -1,0 +1,3 @@
+pub mod ChainsBegun
+pub mod LocalsNamed
+pub mod ParameterPlaces

@@ -1,0 +1,4 @@
+pub mod FirstOutside
+pub mod NamesMeant
+pub mod VariablesMeant
+pub mod VariablesNamed

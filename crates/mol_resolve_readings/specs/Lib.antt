@@ -1,0 +1,3 @@
+pub mod locals
+pub mod meant
+pub mod reads

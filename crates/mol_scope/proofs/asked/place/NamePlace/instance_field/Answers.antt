@@ -1,0 +1,26 @@
+use Rattle.std.proofs.Common.{◌∙◌, cond, None, Some, sym, ap}
+use Rattle.jav_scope.specs.declared.found.Found.TheVariants as answer
+use Rattle.mol_scope.proofs.asked_lemmas.FoundMembers.{is_static_field}
+use Rattle.mol_scope.proofs.asked_lemmas.MembersAnswered.{field-on}
+use Rattle.mol_spell_rules.specs.references.References.{field_target}
+use Rattle.mol_table.specs.Program.{Program}
+use Rattle.mol_scope.proofs.asked.place.NamePlace.instance_field.Goals as goal
+
+pub returns-then-is_static_field : goal.returns-then-is_static_field
+returns-then-is_static_field c =
+    ap (λ b. cond b None (Some (field_target c.in-Found.field)))
+    (sym c.if-is_static_field.true ∙ c.is_static_field.ensures ∙ ap (λ (p : Program). is_static_field p c.in-Found.field) c.table.ensures)
+    ∙ field-on c.args.self.now c.args.class.now c.args.name.now (answer.Found c.in-Found.field) c.in-Found.ensures
+
+pub returns-else-is_static_field : goal.returns-else-is_static_field
+returns-else-is_static_field c =
+    ap (λ b. cond b None (Some (field_target c.in-Found.field)))
+    (sym c.if-is_static_field.false ∙ c.is_static_field.ensures ∙ ap (λ (p : Program). is_static_field p c.in-Found.field) c.table.ensures)
+    ∙ field-on c.args.self.now c.args.class.now c.args.name.now (answer.Found c.in-Found.field) c.in-Found.ensures
+
+pub returns-in-Outside : goal.returns-in-Outside
+returns-in-Outside c =
+    c.written.ensures ∙ field-on c.args.self.now c.args.class.now c.args.name.now answer.Outside c.in-Outside.ensures
+
+pub returns-in-NotFound : goal.returns-in-NotFound
+returns-in-NotFound c = field-on c.args.self.now c.args.class.now c.args.name.now answer.NotFound c.in-NotFound.ensures

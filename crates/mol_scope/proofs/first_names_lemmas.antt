@@ -1,0 +1,2 @@
+pub mod NamesSpelled
+pub mod FirstRead

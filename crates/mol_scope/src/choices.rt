@@ -1,0 +1,5 @@
+//! The static type of a choice between two values of a program.
+
+mod choice;
+
+pub use choice::common;

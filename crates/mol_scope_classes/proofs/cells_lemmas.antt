@@ -1,0 +1,1 @@
+pub use Rattle.mol_resolve_rules.proofs.Stands

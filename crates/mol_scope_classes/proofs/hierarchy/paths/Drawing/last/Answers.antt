@@ -1,0 +1,25 @@
+use Rattle.std.proofs.Common.{◌≡◌, ◌∙◌, ℕ, Some, None, sym, ap, option_copied}
+use Rattle.std.specs.FinMap.{get, from_entries}
+use Rattle.std.specs.Option.{option_map_or}
+use Rattle.mol_base.specs.Order.{id_cmp, id_cmp-total}
+use Rattle.mol_base.specs.declared.ident.Id.{Id}
+use Rattle.mol_values.proofs.Lookups.{get_is}
+use Rattle.mol_values.proofs.Ties.{id_ties}
+use Rattle.mol_values.specs.Order.{id_eq}
+use Rattle.mol_scope_classes.proofs.hierarchy.paths.Drawing.last.Goals as goal
+
+pub returns-in-Some : goal.returns-in-Some
+returns-in-Some c =
+    let lasts = c.args.self.now.lasts.entries in
+    let top : Id = c.args.top.now in
+    let is : get (from_entries {R = id_cmp} lasts) top ≡ Some c.in-Some.depth.now =
+    sym (c.get.ensures.value ∙ get_is id_cmp id_eq id_ties id_cmp-total top lasts) ∙ ap option_copied c.in-Some.is in
+    sym (ap (λ found. option_map_or (λ (depth : ℕ). depth) found 0) is)
+
+pub returns-in-None : goal.returns-in-None
+returns-in-None c =
+    let lasts = c.args.self.now.lasts.entries in
+    let top : Id = c.args.top.now in
+    let none : get (from_entries {R = id_cmp} lasts) top ≡ None =
+    sym (c.get.ensures.value ∙ get_is id_cmp id_eq id_ties id_cmp-total top lasts) ∙ ap option_copied c.in-None.is in
+    sym (ap (λ found. option_map_or (λ (depth : ℕ). depth) found 0) none)

@@ -1,0 +1,11 @@
+use Rattle.std.proofs.Common.{◌<◌, length, arith}
+use Rattle.mol_scope_classes.specs.declared.hierarchy.place.Place.{Place}
+use Rattle.mol_scope_classes.proofs.hierarchy_lemmas.WaysUp.{above-within}
+use Rattle.mol_scope_classes.proofs.hierarchy.weights.heaviest.Goals as goal
+
+pub index-requires-else-place-number : goal.index-requires-else-place-number
+index-requires-else-place-number c =
+    let number = c.loop-number.number in
+    let none : Place = record { above = 0; jump = 0; rank = 0 } in
+    let within : number < length c.args.places.now = omega (arith, c.loop-number-test.true, c.loop-number.auto.number-end) in
+    omega (arith, above-within c.args.places.now c.requires number none within, c.in_ok-most.ensures)

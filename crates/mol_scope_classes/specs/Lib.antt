@@ -1,0 +1,4 @@
+pub mod cells
+pub mod class_members
+pub mod classes
+pub mod hierarchy

@@ -1,0 +1,9 @@
+pub use Rattle.mol_scope_classes.proofs.classes_lemmas.LivingClasses
+pub mod ConstructorsFound
+pub mod DeclaringFound
+pub mod EntriesMade
+pub mod MembersAdded
+pub mod MembersFound
+pub mod OwnersNamed
+pub mod OwnersNear
+pub mod OwnersPlaced

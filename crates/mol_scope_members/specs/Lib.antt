@@ -1,0 +1,3 @@
+pub mod declaring
+pub mod inherited
+pub mod topmost

@@ -1,4 +1,0 @@
-use Rattle.mol_scope_names.proofs.param_names.ParamNames.new.Goals as goal
-
-pub invariant_of-result : goal.invariant_of-result
-invariant_of-result c = c.in_ok-first.ensures

@@ -1,3 +1,0 @@
-pub mod TypesOrdered
-pub mod InTurn
-mod Repeated

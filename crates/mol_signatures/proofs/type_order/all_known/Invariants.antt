@@ -1,9 +1,0 @@
-use Rattle.std.proofs.Common.{◌≡◌, drop}
-use Rattle.std.specs.List.{list_any}
-use Rattle.jav_types.specs.Kept.{view_type}
-use Rattle.jav_view.specs.StaticTypes.{is_unread}
-use Rattle.mol_signatures.proofs.type_order.all_known.Given as goal
-
-abbrev pub invariant-loop-ty : goal.invariant-loop-ty
-invariant-loop-ty l =
-    list_any (λ ty. is_unread (view_type ty)) l.types ≡ list_any (λ ty. is_unread (view_type ty)) (drop l.ty-index l.types)

@@ -1,3 +1,0 @@
-pub use Rattle.mol_uses.specs.Kept
-pub mod Bearers
-pub mod Named

@@ -1,0 +1,3 @@
+pub mod KeysListed
+pub mod KeysOrdered
+pub mod SlashesForDots

@@ -1,0 +1,3 @@
+pub mod body_locals
+pub mod body_places
+pub mod scope_names

@@ -1,0 +1,2 @@
+pub mod body_uses_lemmas
+pub mod uses_lemmas

@@ -1,0 +1,2 @@
+pub mod body_uses
+pub mod uses

@@ -1,4 +1,0 @@
-use Rattle.mol_spelt.proofs.file.file_of.Goals as goal
-
-pub returns : goal.returns
-returns c = λ i. record { class = c.args.key.class; path = c.args.key.path; unit = c.in_ok-unit.ensures i }

@@ -1,8 +1,0 @@
-use Rattle.std.proofs.Common.{◌∙◌}
-use Rattle.mol_spelt.proofs.FilesSpelt.{file-named}
-use Rattle.mol_spelt.proofs.file.tree_by_names.Goals as goal
-
-pub tree_in-requires-clause-file : goal.tree_in-requires-clause-file
-tree_in-requires-clause-file c =
-    file-named c.args.index.now c.args.class.now c.args.names.now c.items.result.now c.requires.names
-    (c.items.ensures ∙ c.in_ok-imports.ensures)

@@ -1,8 +1,0 @@
-use Rattle.mol_spelt.proofs.FilesSpelt.{tree-as}
-use Rattle.mol_spelt.proofs.file.tree_in.Goals as goal
-
-pub returns : goal.returns
-returns g c =
-    let writer = c.new-writer in
-    tree-as c.unit.result writer.result.index.now c.args.index.now writer.result.class c.args.class.now writer.ensures.table
-    writer.ensures.class c.unit.ensures

@@ -1,4 +1,0 @@
-use Rattle.mol_stmt.proofs.stmt_reader.StmtReader.expr.Goals as goal
-
-pub returns : goal.returns
-returns g c = c.alone.ensures

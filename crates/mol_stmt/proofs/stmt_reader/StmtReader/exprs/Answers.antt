@@ -1,9 +1,0 @@
-use Rattle.std.proofs.lemmas.Result.{IfOk-weaker}
-use Rattle.mol_locals.specs.Scoped.{locals_of}
-use Rattle.mol_stmt.proofs.TreesRead.{all_read}
-use Rattle.mol_stmt.proofs.stmt_reader.StmtReader.exprs.Goals as goal
-
-pub returns : goal.returns
-returns g c =
-    IfOk-weaker c.all.result _ _ (λ values read. all_read (g.N.Names.reader c.args.self.now.names.now) (locals_of c.args.locals.now)
-    c.args.items.now values _ _ read) c.all.ensures

@@ -1,2 +1,0 @@
-pub mod TokenForms
-pub mod Words

@@ -1,4 +1,0 @@
-pub use Rattle.mol_numbers.proofs.MemberKeys
-mod NamesTyped
-mod PrimitiveNames
-mod TypesRead

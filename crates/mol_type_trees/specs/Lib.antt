@@ -1,1 +1,0 @@
-pub use Rattle.mol_numbers.specs.Members

@@ -1,6 +1,0 @@
-use Rattle.std.proofs.Common.{◌∙◌}
-use Rattle.mol_values.proofs.Ties.{id_ties}
-use Rattle.mol_types.proofs.equal_types.same_class.Goals as goal
-
-pub returns : goal.returns
-returns c = c.eq.ensures ∙ id_ties c.args.first.now c.args.second.now

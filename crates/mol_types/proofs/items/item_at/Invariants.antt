@@ -1,7 +1,0 @@
-use Rattle.std.proofs.Common.{◌≡◌, ◌-◌}
-use Rattle.mol_spell.specs.ProgramViews.{seen}
-use Rattle.mol_types.specs.Items.{item_at}
-use Rattle.mol_types.proofs.items.item_at.Given as goal
-
-abbrev pub invariant-loop-dimension : goal.invariant-loop-dimension
-invariant-loop-dimension l = item_at l.fn.dimensions (seen l.fn.ty) ≡ item_at (l.dimensions - l._dimension) (seen l.at)

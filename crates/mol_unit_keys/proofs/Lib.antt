@@ -1,3 +1,0 @@
-pub mod KeysListed
-pub mod KeysOrdered
-mod SlashesForDots

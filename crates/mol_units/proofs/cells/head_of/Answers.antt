@@ -1,9 +1,0 @@
-use Rattle.std.proofs.Common.{◌∙◌, ap}
-use Rattle.mol_units.proofs.cells.head_of.Goals as goal
-use Rattle.mol_values.specs.declared.words.Notes.{Notes}
-
-pub returns-in-Some : goal.returns-in-Some
-returns-in-Some c = c.items.ensures ∙ ap (λ (notes : Notes). notes.head) c.in-Some.ensures
-
-pub returns-in-None : goal.returns-in-None
-returns-in-None c = ap (λ (notes : Notes). notes.head) c.in-None.ensures

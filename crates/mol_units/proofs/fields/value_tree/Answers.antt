@@ -1,4 +1,0 @@
-use Rattle.mol_units.proofs.fields.value_tree.Goals as goal
-
-pub returns : goal.returns
-returns g c = λ i. record { ty = c.in_ok-ty.ensures i; init = c.in_ok-init.ensures i }

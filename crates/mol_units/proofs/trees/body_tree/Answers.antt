@@ -1,8 +1,0 @@
-use Rattle.mol_spelling.specs.SpelledStatements.{spelled_block}
-use Rattle.mol_units.proofs.MadeOf.{begun}
-use Rattle.mol_units.proofs.trees.body_tree.Goals as goal
-
-pub returns : goal.returns
-returns g c =
-    begun c.block.result (spelled_block (g.P.Places.writer c.args.places.now) c.args.body.now.block) _ _ _ c.new-locals.ensures
-    c.block.ensures

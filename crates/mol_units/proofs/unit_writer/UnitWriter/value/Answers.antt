@@ -1,6 +1,0 @@
-use Rattle.std.proofs.Common.{◌∙◌, ap}
-use Rattle.mol_table.specs.Program.{Program, value_at}
-use Rattle.mol_units.proofs.unit_writer.UnitWriter.value.Goals as goal
-
-pub returns : goal.returns
-returns g c = c.get.ensures ∙ ap (λ (program : Program). value_at program c.args.id.now c.args.slot) c.table.ensures

@@ -1,2 +1,0 @@
-pub use Rattle.mol_inherited.specs.Indexed
-pub mod Keys

@@ -1,9 +1,0 @@
-//! What the names of variables read as in the classes of a table.
-#![tactic(auto)]
-
-mod place;
-mod variable;
-
-pub use mol_inherited::{MemberIndex, field_of, method_of, super_method};
-pub use place::VariablePlace;
-pub use variable::Variable;

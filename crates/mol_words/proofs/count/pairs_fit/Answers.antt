@@ -1,6 +1,0 @@
-use Rattle.std.proofs.Common.{◌+◌}
-use Rattle.mol_words.proofs.Counted.{cut_few}
-use Rattle.mol_words.proofs.count.pairs_fit.Goals as goal
-
-pub returns : goal.returns
-returns c = rw c.saturating_add.ensures (cut_few (c.args.sizes + c.args.pairs))

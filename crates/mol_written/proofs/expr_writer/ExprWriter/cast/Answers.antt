@@ -1,9 +1,0 @@
-use Rattle.std.proofs.Common.{◌∙◌, ap}
-use Rattle.jav_tree.specs.declared.expr.ExprNode.TheVariants as node
-use Rattle.mol_spelling.specs.SpelledExpressions.{made}
-use Rattle.mol_spelling.specs.Writers.{type_asked}
-use Rattle.mol_written.proofs.expr_writer.ExprWriter.cast.Goals as goal
-
-pub returns : goal.returns
-returns g c =
-    c.made.ensures ∙ ap (λ ty. made (node.Cast ty c.args.operand)) (c.in_ok-ty.ensures (λ text. type_asked text))

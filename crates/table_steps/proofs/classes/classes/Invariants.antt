@@ -1,6 +1,0 @@
-use Rattle.std.proofs.Common.{◌≡◌}
-use Rattle.table_steps.specs.Classes as spec
-use Rattle.table_steps.proofs.classes.classes.Given as goal
-
-abbrev pub invariant-loop-index : goal.invariant-loop-index
-invariant-loop-index l = l.entities ≡ spec.classes l.tag l.index

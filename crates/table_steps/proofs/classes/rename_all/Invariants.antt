@@ -1,8 +1,0 @@
-use Rattle.std.proofs.Common.{◌≡◌, ◌≤◌, ℕ, [], Some}
-use Rattle.std.specs.FinMap.{get}
-use Rattle.mol_values.specs.declared.known.Known.TheVariants as knowns
-use Rattle.table_steps.specs.Classes.{id_of}
-use Rattle.table_steps.proofs.classes.rename_all.Given as goal
-
-abbrev pub invariant-loop-index : goal.invariant-loop-index
-invariant-loop-index l = (number : ℕ) → 1 ≤ number → number ≤ l.count → get l.table.known (id_of [] number) ≡ Some knowns.Class

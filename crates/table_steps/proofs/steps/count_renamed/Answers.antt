@@ -1,4 +1,0 @@
-use Rattle.table_steps.proofs.steps.count_renamed.Goals as goal
-
-pub rename_all-requires : goal.rename_all-requires
-rename_all-requires c = c.in_ok-table.ensures.known

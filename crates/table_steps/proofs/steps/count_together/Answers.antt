@@ -1,5 +1,0 @@
-use Rattle.table_steps.specs.Classes.{id_of}
-use Rattle.table_steps.proofs.steps.count_together.Goals as goal
-
-pub fill-requires : goal.fill-requires
-fill-requires c = λ number. c.in_ok-table.ensures (id_of c.args.lesser number) c.requires.some_lesser c.requires.apart
