@@ -1,9 +1,9 @@
 -- A block without statements is a body.
 use Rattle.std.proofs.Common.{◌≡◌, Bool, true, [], ap}
-use Rattle.mol_table.specs.StatementForms.{StatementShape, BlockShape, is_body, block_shape, else_step}
-use Rattle.mol_table.specs.StatementForms.{node_step, block_step, if_step, statement_step}
-use Rattle.mol_values.specs.Blocks.{block_of}
-use Rattle.mol_values.specs.declared.iblock.IElse.TheFolds.{fold-roll-IBlock}
+use Rattle.mol_table_rules.specs.StatementForms.{StatementShape, BlockShape, is_body, block_shape, else_step}
+use Rattle.mol_table_rules.specs.StatementForms.{node_step, block_step, if_step, statement_step}
+use Rattle.mol_values_types.specs.Blocks.{block_of}
+use Rattle.mol_values_types.specs.declared.iblock.IElse.TheFolds.{fold-roll-IBlock}
 
 empty-shape : block_shape (block_of [] []) ≡ block_step (record { items = []; tail = [] })
 empty-shape =

@@ -2,8 +2,8 @@
 use Rattle.std.proofs.Common.{◌≡◌, true, ◌&&◌, [], refl, ap, arith}
 use Rattle.std.specs.Prelude.{codes}
 use Rattle.mol_base.specs.Lexical.Names.{keywords, word_literals}
-use Rattle.mol_values.proofs.AsciiNames.{ascii-name}
-use Rattle.mol_values.specs.TokenForms.{is_name, is_dotted}
+use Rattle.mol_values_types.proofs.AsciiNames.{ascii-name}
+use Rattle.mol_values_types.specs.TokenForms.{is_name, is_dotted}
 
 pub first_class : is_name (codes "C") ≡ true
 unfolding keywords word_literals

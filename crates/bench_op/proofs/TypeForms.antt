@@ -1,12 +1,12 @@
 -- `int` is a type, and `void` a result.
 use Rattle.std.specs.Prelude.{◌≡◌, ℕ, Bool, true, ◌&&◌, ◌||◌, nat_le}
 use Rattle.std.proofs.Common.{sym, ap, ◌∙◌}
-use Rattle.mol_table.specs.TypeForms.{dimensions_step, is_result, is_type, named_step, void_step}
-use Rattle.mol_values.specs.declared.itype.IType.{IType, fold-IType}
-use Rattle.mol_values.specs.declared.itype.IType.TheFolds.{fold-roll-IType, map-IType}
-use Rattle.mol_values.specs.declared.itype.IType.TheOpen.{IType-F}
-use Rattle.mol_values.specs.declared.itype.IType.TheVariants as types
-use Rattle.mol_values.specs.declared.itype.IType.TheViews.{roll-IType}
+use Rattle.mol_table_rules.specs.TypeForms.{dimensions_step, is_result, is_type, named_step, void_step}
+use Rattle.mol_values_types.specs.declared.itype.IType.{IType, fold-IType}
+use Rattle.mol_values_types.specs.declared.itype.IType.TheFolds.{fold-roll-IType, map-IType}
+use Rattle.mol_values_types.specs.declared.itype.IType.TheOpen.{IType-F}
+use Rattle.mol_values_types.specs.declared.itype.IType.TheVariants as types
+use Rattle.mol_values_types.specs.declared.itype.IType.TheViews.{roll-IType}
 
 -- what a fold makes of a type
 folded : {A : Type 0} (step : IType-F A → A) (ty : IType) (x : IType-F IType) → roll-IType x ≡ ty

@@ -1,11 +1,11 @@
 //! Operations that add, without modifiers and comments.
 ghost use Rattle.std.specs.Prelude.{◌≡◌, [], not, IsTrue};
 ghost use Rattle.mol_op.specs.Kept.{is_constructor};
-ghost use Rattle.mol_table.specs.StatementForms.{is_body};
+ghost use Rattle.mol_table_rules.specs.StatementForms.{is_body};
 
 use mol_base::{Id, List, OutOfMemory, Text};
 use mol_op::{AddClass, AddConstructor, AddField, AddMethod, AddOverride, Op};
-use mol_values::{IBlock, IBody, IType, MethodKind, Notes, Words};
+use mol_values_types::{IBlock, IBody, IType, MethodKind, Notes, Words};
 use std::alloc::Global;
 
 /// No modifiers.

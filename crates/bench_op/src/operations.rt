@@ -8,7 +8,7 @@ use mol_op::{
     ChangeSignature, Delete, MoveClass, MoveMethod, Op, RenameClass, RenameMethod, SetBody,
     SetValue,
 };
-use mol_values::{IType, MethodKind};
+use mol_values_types::{IType, MethodKind};
 use std::alloc::Global;
 
 /// Names the class `D`.

@@ -6,7 +6,7 @@ use crate::operations::operation_at;
 use mol_base::{OutOfMemory, Tag};
 use mol_op::{ApplyFault, Op, Operation};
 use mol_table::Table;
-use mol_values::MethodKind;
+use mol_values_types::MethodKind;
 use std::alloc::Global;
 
 /// Applies an operation, if there was memory for it.

@@ -10,16 +10,16 @@ use Rattle.std.proofs.lemmas.Bool.{false_from_ne_true}
 use Rattle.mol_base.specs.Lexical.Names.{keywords, word_literals}
 use Rattle.mol_base.specs.Order.{id_cmp-total}
 use Rattle.mol_base.specs.declared.ident.Id.{Id}
-use Rattle.mol_table.specs.Maps.{AreApart}
-use Rattle.mol_table.specs.Program.{Program, same_id}
-use Rattle.mol_table.specs.Rules.{IsProgram}
-use Rattle.mol_values.specs.TokenForms.{is_name, is_dotted}
-use Rattle.mol_table.specs.Writes.{AreNew, with_entity, with_entities}
-use Rattle.mol_table.specs.declared.entity.NewEntity.{NewEntity}
-use Rattle.mol_values.specs.declared.known.Known.TheVariants as knowns
-use Rattle.mol_values.proofs.AsciiNames.{ascii-name}
-use Rattle.mol_table.proofs.Living.{id_tied}
-use Rattle.mol_table.proofs.NewClasses.{IsPlainClass, classes-new}
+use Rattle.mol_table_rules.specs.Room.{AreApart}
+use Rattle.mol_table_rules.specs.Program.{Program, same_id}
+use Rattle.mol_table_rules.specs.Rules.{IsProgram}
+use Rattle.mol_values_types.specs.TokenForms.{is_name, is_dotted}
+use Rattle.mol_table_rules.specs.Writes.{AreNew, with_entity, with_entities}
+use Rattle.mol_table_rules.specs.declared.entity.NewEntity.{NewEntity}
+use Rattle.mol_values_types.specs.declared.known.Known.TheVariants as knowns
+use Rattle.mol_values_types.proofs.AsciiNames.{ascii-name}
+use Rattle.mol_table_rules.proofs.Living.{id_tied}
+use Rattle.mol_table_rules.proofs.NewClasses.{IsPlainClass, classes-new}
 use Rattle.bench_table.specs.Classes.{id_of, class_entity, classes}
 
 -- ---- names

@@ -1,12 +1,12 @@
 -- Classes that a table is filled with.
 use Rattle.std.specs.Prelude.{ℕ, zero, suc, true, List, [], ◌∷◌, ◌++◌, codes, None}
 use Rattle.mol_base.specs.declared.ident.Id.{Id}
-use Rattle.mol_table.specs.Program.{cell}
-use Rattle.mol_values.specs.declared.cell.Cell.{Cell}
-use Rattle.mol_values.specs.declared.cell.Slot.TheVariants as slots
-use Rattle.mol_table.specs.declared.entity.NewEntity.{NewEntity}
-use Rattle.mol_values.specs.declared.kind.Kind.TheVariants as kinds
-use Rattle.mol_values.specs.declared.value.Value.TheVariants as values
+use Rattle.mol_table_rules.specs.Program.{cell}
+use Rattle.mol_values_types.specs.declared.cell.Cell.{Cell}
+use Rattle.mol_values_types.specs.declared.cell.Slot.TheVariants as slots
+use Rattle.mol_table_rules.specs.declared.entity.NewEntity.{NewEntity}
+use Rattle.mol_values_types.specs.declared.kind.Kind.TheVariants as kinds
+use Rattle.mol_values_types.specs.declared.value.Value.TheVariants as values
 
 abbrev pub id_of : List ℕ → ℕ → Id
 id_of tag number = record { tag = tag; num = number }

@@ -2,12 +2,13 @@
 ghost use Rattle.std.specs.Prelude.{◌≡◌, ◌≢◌, ◌≤◌, ℕ, [], ◌∷◌, Some, None, IfOk, OnOk};
 ghost use Rattle.std.specs.FinMap as map;
 ghost use Rattle.mol_base.specs.declared.ident.Id.{Id as Identity};
-ghost use Rattle.mol_values.specs.declared.known.Known.TheVariants as knowns;
+ghost use Rattle.mol_values_types.specs.declared.known.Known.TheVariants as knowns;
 ghost use Rattle.bench_table.specs.Classes as spec;
 
 use mol_base::{Id, List, OutOfMemory, Tag, Text};
-use mol_table::{NewEntity, Table};
-use mol_values::{Cell, Kind, Notes, Slot, Value, Words};
+use mol_table::Table;
+use mol_table_rules::NewEntity;
+use mol_values_types::{Cell, Kind, Notes, Slot, Value, Words};
 use std::alloc::Global;
 
 /// A living class of this name, without superclass, words and comments.

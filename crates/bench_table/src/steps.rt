@@ -2,13 +2,14 @@
 ghost use Rattle.std.specs.Prelude.{◌≡◌, ◌≢◌, ◌≤◌, ℕ, [], Some, None, IfOk};
 ghost use Rattle.std.specs.FinMap as map;
 ghost use Rattle.mol_base.specs.declared.ident.Id.{Id as Identity};
-ghost use Rattle.mol_values.specs.declared.known.Known.TheVariants as knowns;
+ghost use Rattle.mol_values_types.specs.declared.known.Known.TheVariants as knowns;
 ghost use Rattle.bench_table.specs.Classes as spec;
 
 use crate::classes::{fill, fill_each, name_of, rename_all};
 use mol_base::{OutOfMemory, Tag};
 use mol_table::Table;
-use mol_values::{Kind, Value};
+use mol_table_numbers::same;
+use mol_values_types::{Kind, Value};
 use std::alloc::Global;
 
 /// The table of so many classes of a base.
@@ -45,7 +46,7 @@ fn count_named(table: &Table, base: u32, name: &[u8]) -> u64 {
 
 /// How many identities a table has where it is the same as the wanted one, else none.
 fn count_if_same(found: &Table, wanted: &Table) -> u64 {
-    if found.same(wanted) {
+    if same(found, wanted) {
         found.ids().len() as u64
     } else {
         0

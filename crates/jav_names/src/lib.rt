@@ -1,6 +1,7 @@
-//! What names in Java sources read as: the rules, over a view of classes and members, and the view of source files.
+//! What names in Java sources read as: the rules, over a view of classes and members; types as the rules see them; and sorted lists in
+//! which names are looked up.
 //!
-//! The rules are definitions in `specs/`, which the contracts of the crates above cite. The calls here compute nothing: each
+//! The rules are definitions in `specs/`, which the contracts of the crates above cite. The calls of this file compute nothing: each
 //! carries laws of the rules.
 #![tactic(auto)]
 

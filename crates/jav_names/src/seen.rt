@@ -1,4 +1,4 @@
-//! Types as the rules on names look at them, and the static types of values: their definitions are those of `jav_names`, with the
+//! Types as the rules on names look at them, and the static types of values: their definitions are those of the rules, with the
 //! numbers of source files as the keys of classes.
 
 mod seen_type;

@@ -1,4 +1,5 @@
-//! What names in source files read as: the look-ups of a scope, which is made over a list of source files.
+//! What names in source files read as: the look-ups of a scope, made over a list of source files, of classes, imports, members,
+//! variables and types; and what is above a class.
 #![tactic(auto)]
 
 mod ancestors;

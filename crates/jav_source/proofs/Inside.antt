@@ -13,8 +13,8 @@ use Rattle.jav_parse_unit.specs.BadToken.{Language, FaultAt, IsFault, end_of, un
 use Rattle.jav_parse_unit.specs.declared.fault.ParseFault.{ParseFault}
 use Rattle.jav_source.specs.FaultTexts.{place, syntax_at}
 use Rattle.jav_source.specs.Sources.{IsFaultOf}
-use Rattle.jav_source.specs.declared.fault.SourceFault.{SourceFault}
-use Rattle.jav_source.specs.declared.fault.SourceFault.TheVariants.{Lex, Parse}
+use Rattle.jav_source.specs.declared.fault.TextFault.{TextFault}
+use Rattle.jav_source.specs.declared.fault.TextFault.TheVariants.{Lex, Parse}
 
 -- # Lexical faults
 
@@ -65,6 +65,6 @@ syntax_inside bytes ts fault source (inl bad) =
     rw (at_start units bad.front bad.bad fault bad.fault_there) (starts_inside bytes 0 (length bytes) bad.front bad.bad bad.rest tiles)
 syntax_inside bytes ts fault source (inr early) = rw early.fault_there (ends_inside bytes 0 (length bytes) ts source.tiles)
 
-pub fault_inside : (bytes : List ℕ) (fault : SourceFault) → IsFaultOf bytes fault → place fault ≤ length bytes
+pub fault_inside : (bytes : List ℕ) (fault : TextFault) → IsFaultOf bytes fault → place fault ≤ length bytes
 fault_inside bytes (Lex fault) is = lexical_inside bytes fault is.there
 fault_inside bytes (Parse fault) is = syntax_inside bytes is.tokens fault is.source is.there

@@ -1,3 +1,2 @@
-pub mod Back
 pub mod Inside
 pub mod Reading

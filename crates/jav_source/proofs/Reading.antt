@@ -13,19 +13,19 @@ use Rattle.jav_parse_unit.specs.BadToken.{most_items, most_height, units, IsFaul
 use Rattle.jav_parse_unit.specs.declared.fault.ParseFault.{ParseFault}
 use Rattle.jav_parse_unit.specs.declared.fault.ParseFault.TheVariants as parse
 use Rattle.jav_source.specs.Sources.{IsUnitOf, FaultsAs, RefusesTokens, RefusesTree, of_lexical, of_syntax}
-use Rattle.jav_source.specs.declared.fault.SourceFault.TheVariants.{Lex, Parse}
+use Rattle.jav_source.specs.declared.fault.TextFault.TheVariants.{Lex, Parse}
 use Rattle.jav_source.specs.declared.fault.UnitFault.{UnitFault}
-use Rattle.jav_source.specs.declared.fault.UnitFault.TheVariants.{Source, OutOfMemory}
+use Rattle.jav_source.specs.declared.fault.UnitFault.TheVariants.{Text, OutOfMemory}
 
 pub tokens_fault : (bytes : List ℕ) (f : UnitFault) → RefusesTokens bytes f → FaultsAs bytes f
-tokens_fault bytes (Source (Lex fault)) refused = refused
-tokens_fault bytes (Source (Parse fault)) refused = absurd refused
+tokens_fault bytes (Text (Lex fault)) refused = refused
+tokens_fault bytes (Text (Parse fault)) refused = absurd refused
 tokens_fault bytes OutOfMemory refused = tt
 
 -- bytes that are the source of a tree have tokens
 pub tokens_there : (bytes : List ℕ) (f : UnitFault) (unit : Tree) → RefusesTokens bytes f → IsUnitOf bytes unit → f ≡ OutOfMemory
-tokens_there bytes (Source (Lex fault)) unit refused is = absurd (no_fault bytes is.tokens is.source fault refused.there)
-tokens_there bytes (Source (Parse fault)) unit refused is = absurd refused
+tokens_there bytes (Text (Lex fault)) unit refused is = absurd (no_fault bytes is.tokens is.source fault refused.there)
+tokens_there bytes (Text (Parse fault)) unit refused is = absurd refused
 tokens_there bytes OutOfMemory unit refused is = refl
 
 module _ (bytes : List ℕ) (ts : List Token) (source : IsSource bytes ts) where
@@ -34,8 +34,8 @@ module _ (bytes : List ℕ) (ts : List Token) (source : IsSource bytes ts) where
   tree_there unit is = subst (IsUnit most_items most_height unit) (one_tiling bytes 0 is.tokens ts is.source.tiles source.tiles) is.tree
 
   pub tree_fault : (f : UnitFault) → RefusesTree ts f → FaultsAs bytes f
-  tree_fault (Source (Lex fault)) refused = absurd refused
-  tree_fault (Source (Parse fault)) refused = record { tokens = ts; source = source; there = refused }
+  tree_fault (Text (Lex fault)) refused = absurd refused
+  tree_fault (Text (Parse fault)) refused = record { tokens = ts; source = source; there = refused }
   tree_fault OutOfMemory refused = tt
 
 -- # What the parser answers

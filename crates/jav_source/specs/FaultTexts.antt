@@ -6,8 +6,8 @@ use Rattle.jav_lex.specs.declared.fault.LexFault.TheVariants as lex
 use Rattle.jav_parse_unit.specs.declared.fault.ParseFault.{ParseFault}
 use Rattle.jav_parse_unit.specs.declared.fault.ParseFault.TheVariants as parse
 use Rattle.jav_parse_unit.specs.declared.feature.Feature.{Feature}
-use Rattle.jav_source.specs.declared.fault.SourceFault.{SourceFault}
-use Rattle.jav_source.specs.declared.fault.SourceFault.TheVariants.{Lex, Parse}
+use Rattle.jav_source.specs.declared.fault.TextFault.{TextFault}
+use Rattle.jav_source.specs.declared.fault.TextFault.TheVariants.{Lex, Parse}
 
 -- the byte at which a syntax fault is
 abbrev pub syntax_at : ParseFault → ℕ
@@ -19,7 +19,7 @@ syntax_at (parse.TooMany at) = at
 syntax_at parse.OutOfMemory = 0
 
 -- the byte at which a fault is
-abbrev pub place : SourceFault → ℕ
+abbrev pub place : TextFault → ℕ
 place (Lex fault) = lexical.place fault
 place (Parse fault) = syntax_at fault
 
@@ -45,7 +45,7 @@ syntax_word (parse.TooMany at) = codes "too-many"
 syntax_word parse.OutOfMemory = codes "out-of-memory"
 
 -- its name: the words of its variant in lower case, joined by `-`
-abbrev pub name : SourceFault → List ℕ
+abbrev pub name : TextFault → List ℕ
 name (Lex fault) = lexical_word fault
 name (Parse fault) = syntax_word fault
 
@@ -59,6 +59,6 @@ refused (parse.TooMany at) = None
 refused parse.OutOfMemory = None
 
 -- the part of Java that is refused, where it is one
-abbrev pub feature : SourceFault → Option Feature
+abbrev pub feature : TextFault → Option Feature
 feature (Lex fault) = None
 feature (Parse fault) = refused fault

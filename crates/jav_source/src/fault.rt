@@ -3,9 +3,9 @@ use jav_lex::LexFault;
 use jav_parse_unit::{Feature, ParseFault};
 use mol_base::OutOfMemory;
 
-/// What is wrong with a source: with its bytes, or else with its tokens.
+/// What is wrong with the text of a source: with its bytes, or else with its tokens.
 #[derive(Clone, Copy, Debug, PartialEq, Eq)]
-pub enum SourceFault {
+pub enum TextFault {
     Lex(LexFault),
     Parse(ParseFault),
 }
@@ -13,11 +13,11 @@ pub enum SourceFault {
 /// Why a call answers nothing of a source.
 #[derive(Clone, Copy, Debug, PartialEq, Eq)]
 pub enum UnitFault {
-    Source(SourceFault),
+    Text(TextFault),
     OutOfMemory,
 }
 
-impl SourceFault {
+impl TextFault {
     ghost use Rattle.std.specs.Prelude.{◌≡◌};
     ghost use Rattle.jav_source.specs.FaultTexts.{place, name, feature};
 
@@ -26,8 +26,8 @@ impl SourceFault {
         ensures { result ≡ place self.now }
     {
         match self {
-            SourceFault::Lex(fault) => lexical_place(*fault),
-            SourceFault::Parse(fault) => syntax_place(*fault),
+            TextFault::Lex(fault) => lexical_place(*fault),
+            TextFault::Parse(fault) => syntax_place(*fault),
         }
     }
 
@@ -36,8 +36,8 @@ impl SourceFault {
         ensures { result.now ≡ name self.now }
     {
         match self {
-            SourceFault::Lex(fault) => lexical_name(*fault),
-            SourceFault::Parse(fault) => syntax_name(*fault),
+            TextFault::Lex(fault) => lexical_name(*fault),
+            TextFault::Parse(fault) => syntax_name(*fault),
         }
     }
 
@@ -46,8 +46,8 @@ impl SourceFault {
         ensures { result ≡ feature self.now }
     {
         match self {
-            SourceFault::Lex(_) => None,
-            SourceFault::Parse(fault) => refused_feature(*fault),
+            TextFault::Lex(_) => None,
+            TextFault::Parse(fault) => refused_feature(*fault),
         }
     }
 }
@@ -141,7 +141,7 @@ impl UnitFault {
     {
         match fault {
             LexFault::OutOfMemory => UnitFault::OutOfMemory,
-            fault => UnitFault::Source(SourceFault::Lex(fault)),
+            fault => UnitFault::Text(TextFault::Lex(fault)),
         }
     }
 
@@ -151,7 +151,7 @@ impl UnitFault {
     {
         match fault {
             ParseFault::OutOfMemory => UnitFault::OutOfMemory,
-            fault => UnitFault::Source(SourceFault::Parse(fault)),
+            fault => UnitFault::Text(TextFault::Parse(fault)),
         }
     }
 }

@@ -9,7 +9,7 @@ ghost use Rattle.mol_base.specs.Lines.{line, column};
 ghost use Rattle.jav_source.specs.FaultTexts.{place};
 ghost use Rattle.jav_source.specs.Sources.{IsUnitOf, IsFaultOf, FaultsAs, RefusesTokens, RefusesTree};
 
-use crate::fault::{SourceFault, UnitFault};
+use crate::fault::{TextFault, UnitFault};
 use jav_lex::{Token, lex};
 use jav_parse::parse;
 use jav_tree::Unit;
@@ -58,7 +58,7 @@ fn tree_of(alloc: Global, tokens: &[Token]) -> Result<Unit, UnitFault>
 }
 
 /// The line and the column of a fault of a source. Both count from 1, the column in characters.
-pub fn line_and_column_of(bytes: &[u8], fault: &SourceFault) -> (u32, u32)
+pub fn line_and_column_of(bytes: &[u8], fault: &TextFault) -> (u32, u32)
     requires small { length bytes.now + 1 < 2 ^ 32 }
     requires fault { IsFaultOf bytes.now fault.now }
     ensures line { result.0 ≡ line bytes.now (place fault.now) }

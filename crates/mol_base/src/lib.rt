@@ -29,7 +29,7 @@ pub use lexical::text_kind;
 pub use limit::{MAX_ITEMS, MAX_NAME_BYTES, Which};
 pub use lines::line_and_column;
 pub use list::List;
-pub use memory::OutOfMemory;
+pub use memory::{OutOfMemory, both};
 pub use modifier::{Modified, are_in_order};
 pub use number::number_of;
 pub use operator::{binary_level, is_assignment, is_prefix, is_sign, is_step};

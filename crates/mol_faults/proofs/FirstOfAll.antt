@@ -8,7 +8,7 @@ use Rattle.std.specs.declared.cmp.Ordering.TheVariants.{Less}
 use Rattle.jav_names.proofs.Lists.{stands_first, stands_where}
 use Rattle.mol_spell_rules.proofs.FaultsOrdered.{faults_determined}
 use Rattle.mol_spell_rules.specs.FaultList.{Fault, fault_cmp, AreFaults}
-use Rattle.mol_table.specs.Program.{Program}
+use Rattle.mol_table_rules.specs.Program.{Program}
 use Rattle.mol_faults.specs.First.{IsFirst, first_of}
 
 pub first-mapped : {X Y : Type 0} (f : X → Y) (xs : List X) → first_of (map f xs) ≡ option_map f (first_of xs)

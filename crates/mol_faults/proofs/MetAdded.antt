@@ -2,8 +2,8 @@
 use Rattle.std.proofs.Common.{◌≡◌, List, ◌++◌, map, Option, None, Some, option_map, refl, sym, ap, ◌∙◌, append_assoc}
 use Rattle.std.specs.Option.{option_to_list}
 use Rattle.mol_spell_rules.specs.references.References.{Target}
-use Rattle.mol_faults_support.specs.Met.{kept_met}
-use Rattle.mol_faults_support.specs.declared.met.Met.{Met}
+use Rattle.mol_faults_rules.specs.Met.{kept_met}
+use Rattle.mol_faults_rules.specs.declared.met.Met.{Met}
 
 listed : (o : Option Met) → map kept_met (option_to_list o) ≡ option_to_list (option_map kept_met o)
 listed None = refl

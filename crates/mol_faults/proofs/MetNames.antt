@@ -18,10 +18,11 @@ use Rattle.mol_spell_rules.specs.FaultList.{FaultTarget, fault_target, misread}
 use Rattle.mol_spell_rules.specs.NameFaults.{unit_reader, MisreadIn}
 use Rattle.mol_spell_rules.specs.ReadInstead.{instead}
 use Rattle.mol_spell_rules.specs.Support.{IsMetBy, is_recorded, read_instead}
-use Rattle.mol_faults_support.specs.Met.{HasMet, is_of_program}
-use Rattle.mol_table.specs.Program.{Program}
-use Rattle.mol_table.specs.Tidy.{tidy}
-use Rattle.mol_values.specs.declared.cell.Cell.{Cell}
+use Rattle.mol_faults_rules.specs.Met.{is_of_program}
+use Rattle.mol_faults_support.specs.Met.{HasMet}
+use Rattle.mol_table_rules.specs.Program.{Program}
+use Rattle.mol_table_rules.specs.Tidy.{tidy}
+use Rattle.mol_values_types.specs.declared.cell.Cell.{Cell}
 
 -- ---- targets of the program
 

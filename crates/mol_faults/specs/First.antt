@@ -3,7 +3,7 @@ use Rattle.std.specs.Prelude.{◌≡◌, ◌⊎◌, List, [], ◌∷◌, Option,
 use Rattle.std.specs.declared.cmp.Ordering.TheVariants.{Less}
 use Rattle.mol_spell_rules.specs.Clean.{Clean}
 use Rattle.mol_spell_rules.specs.FaultList.{Fault, IsFault, fault_cmp}
-use Rattle.mol_table.specs.Program.{Program}
+use Rattle.mol_table_rules.specs.Program.{Program}
 
 abbrev pub first_of : {X : Type 0} → List X → Option X
 first_of [] = None

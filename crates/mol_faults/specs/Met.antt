@@ -6,7 +6,7 @@ use Rattle.mol_faults_misread.specs.misread_faults.Found.{Found, is_name}
 use Rattle.mol_faults_misread.specs.body_misreads.Noted.{Misreading}
 use Rattle.mol_spell_rules.specs.references.References.{Target}
 use Rattle.mol_spell_rules.specs.FaultList.{FaultTarget}
-use Rattle.mol_values.specs.declared.cell.Cell.{Cell}
+use Rattle.mol_values_types.specs.declared.cell.Cell.{Cell}
 
 -- what of the program it is the name of, and what it reads as instead
 abbrev pub met_by : Misreading → List Target

@@ -2,7 +2,7 @@
 ghost use Rattle.std.specs.Prelude.{◌≡◌, IfOk, map, option_map};
 ghost use Rattle.mol_faults_rules.specs.Kept.{kept_fault};
 ghost use Rattle.mol_faults.specs.First.{IsFirst, first_of};
-ghost use Rattle.mol_table.specs.Tidy.{tidy};
+ghost use Rattle.mol_table_rules.specs.Tidy.{tidy};
 
 use crate::all::{all_of, faults};
 use mol_base::OutOfMemory;

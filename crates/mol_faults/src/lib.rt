@@ -7,5 +7,5 @@ mod supports;
 
 pub use all::faults;
 pub use first::{first_fault, first_fault_of_tidied};
-pub use mol_faults_rules::{Fault, Target};
+pub use mol_faults_rules::{Conflict, ConflictKind, Fault, Target};
 pub use supports::support;

@@ -7,15 +7,16 @@ ghost use Rattle.mol_faults.specs.Met.{met_among, met_by, met_in};
 ghost use Rattle.mol_faults_misread.specs.misread_faults.Found.{Found, IsMisread, kept_name};
 ghost use Rattle.mol_spell_rules.specs.FaultList.{misread};
 ghost use Rattle.mol_spell_rules.specs.Support.{IsSupport};
-ghost use Rattle.mol_faults_support.specs.Met.{kept_met, HasMet};
+ghost use Rattle.mol_faults_rules.specs.Met.{kept_met};
+ghost use Rattle.mol_faults_support.specs.Met.{HasMet};
 
 use mol_base::{List, OutOfMemory};
 use mol_faults_misread::{Misread, MisreadName, misread_names};
-use mol_faults_rules::{Fault, Target};
-use mol_faults_support::{Met, support as support_by};
+use mol_faults_rules::{Fault, Met, Target};
+use mol_faults_support::support as support_by;
 use mol_spell_names::ProgramIndex;
 use mol_table::Table;
-use mol_values::Cell;
+use mol_values_types::Cell;
 use std::alloc::Global;
 
 /// The cells that a fault of a program rests on, ascending: what its condition looks at first, so that the operations that last wrote them

@@ -8,7 +8,7 @@ use Rattle.jav_names.specs.OnValues.{class_value, mixed_value, outside_value, pr
 use Rattle.jav_names.specs.StaticTypes.{common, item, of_literal, of_type, outside_call, outside_field}
 use Rattle.mol_faults_expr.specs.Names.{class_reference, created_class_reference, created_value, index_reference, local_reference, local_value, method_on_reference, name_reference, outside_call_reference, outside_super_reference, param_reference, super_reference}
 use Rattle.mol_faults_expr.specs.Noted.{IsRead, Noted, noted_after}
-use Rattle.mol_faults_expr.specs.References.{all_references, argument_references, call_on_references, created_references, creation_references, expr_references, field_references, outside_call_on_references, outside_call_references, outside_creation_references, outside_field_references, outside_received, outside_super_references, own_call_references, received_references, references_as, static_call_references, static_type, super_call_references, type_references, typed_references, value_field_references}
+use Rattle.mol_faults_expr.specs.References.{all_references, argument_references, call_on_references, creation_references, expr_references, field_references, outside_call_on_references, outside_call_references, outside_field_references, outside_received, outside_super_references, own_call_references, received_references, references_as, static_call_references, static_type, super_call_references, type_references, typed_references, value_field_references}
 use Rattle.mol_spell_rules.specs.references.References.{default_target}
 use Rattle.mol_resolve_rules.specs.Locals.{Locals}
 use Rattle.mol_resolve_rules.specs.ProgramViews.{program_view, seen}
@@ -18,13 +18,13 @@ use Rattle.mol_spell_rules.proofs.SpelledEquations.{rolled, spelled_argument}
 use Rattle.mol_spell_rules.specs.SpelledExpressions.{SpelledExpr, argument_step, call_form, call_reference, constructor_reference, each_alone, expr_step, field_reference, is_this_step, own_form, references_step, spelled_expr, static_call_form, static_form, static_step}
 use Rattle.mol_spell_rules.specs.Writers.{Reference, Writer}
 use Rattle.mol_scope.specs.declared.types.static_type.StaticType.{StaticType}
-use Rattle.mol_values.specs.declared.iexpr.Argument.{Argument}
-use Rattle.mol_values.specs.declared.iexpr.IExpr.{IExpr}
-use Rattle.mol_values.specs.declared.iexpr.IExpr.TheFolds.{fold-roll-Argument, ind-IExpr, map-IExpr}
-use Rattle.mol_values.specs.declared.iexpr.IExpr.TheOpen.{IExpr-F}
-use Rattle.mol_values.specs.declared.iexpr.IExpr.TheVariants as exprs
-use Rattle.mol_values.specs.declared.iexpr.IExpr.TheViews.{roll-IExpr}
-use Rattle.mol_values.specs.declared.itype.IType.{IType}
+use Rattle.mol_values_types.specs.declared.iexpr.Argument.{Argument}
+use Rattle.mol_values_types.specs.declared.iexpr.IExpr.{IExpr}
+use Rattle.mol_values_types.specs.declared.iexpr.IExpr.TheFolds.{fold-roll-Argument, ind-IExpr, map-IExpr}
+use Rattle.mol_values_types.specs.declared.iexpr.IExpr.TheOpen.{IExpr-F}
+use Rattle.mol_values_types.specs.declared.iexpr.IExpr.TheVariants as exprs
+use Rattle.mol_values_types.specs.declared.iexpr.IExpr.TheViews.{roll-IExpr}
+use Rattle.mol_values_types.specs.declared.itype.IType.{IType}
 use Rattle.mol_spell_expr.specs.declared.type_place.TypePlace.TheVariants as places
 
 module _ (writer : Writer) (locals : Locals Id) where
@@ -235,10 +235,10 @@ module _ (writer : Writer) (locals : Locals Id) (e : IExpr) where
       (length-map args (spelled_argument writer locals) i) ∷ arguments-alone writer locals args i) refl
 
   pub says-NewOutside : (type : IType) (args : List IExpr) → e ≡ exprs.NewOutside type args
-      → Says None (outside_creation_references writer locals type args) outside_value
+      → Says None (typed_references writer locals type args) outside_value
   says-NewOutside type args is =
       by_node (IExpr-F.NewOutside type args) None _ _ (is ∙ sym (exprs.rolls-NewOutside type args))
-      (λ i. created_references writer locals (length-map args (spelled_expr writer locals) i) type ++ all-alone writer locals args i) refl
+      (ap (λ rest. type_references writer locals places.Expression type ++ rest) (all-alone writer locals args)) refl
 
   pub says-NewArray : (type : IType) (args : List IExpr) (pairs : ℕ) → e ≡ exprs.NewArray type args pairs
       → Says None (typed_references writer locals type args) (of_type (arrays (length args + pairs) (seen type)))

@@ -19,7 +19,7 @@ use Rattle.mol_resolve_rules.specs.ReadTrees.{Mode}
 use Rattle.mol_spell_rules.specs.Answers.{answered, call_answer, name_answer}
 use Rattle.mol_spell_rules.specs.SpelledExpressions.{MemberForm, by_name, call_reference, field_reference, is_declaration_of, is_field, name_of, reads_field, reads_method}
 use Rattle.mol_spell_rules.specs.Writers.{Reference, Writer}
-use Rattle.mol_table.specs.Program.{same_id}
+use Rattle.mol_table_rules.specs.Program.{same_id}
 
 -- ---- what simple names read as
 

@@ -3,39 +3,39 @@ use Rattle.std.proofs.Common.{◌≡◌, Bool, List, [], ◌∷◌, Some, sym, �
 use Rattle.mol_base.specs.declared.ident.Id.{Id}
 use Rattle.jav_names.specs.DottedNames.{Name}
 use Rattle.jav_names.specs.TypeTexts.{imported_text}
-use Rattle.mol_faults_expr.specs.References.{asked_by, asked_references, place_of}
-use Rattle.mol_faults_expr.specs.declared.types.Asks.{Asks}
+use Rattle.mol_faults_expr.specs.References.{type_references}
 use Rattle.mol_spell_rules.specs.references.References.{Target, class_target, outside_target}
 use Rattle.mol_resolve_rules.specs.Locals.{Locals}
 use Rattle.mol_spell_rules.specs.SpelledTypes.{SpelledType, spelled_type, type_step}
-use Rattle.mol_spell_rules.specs.Writers.{Importable, Reference, Use, Writer, outside_import, program_class, spelled, text_of, use_of, written_use}
-use Rattle.mol_values.specs.declared.itype.IType.{IType}
-use Rattle.mol_values.specs.declared.itype.IType.TheFolds.{fold-roll-IType, map-IType}
-use Rattle.mol_values.specs.declared.itype.IType.TheOpen.{IType-F}
-use Rattle.mol_values.specs.declared.itype.IType.TheVariants as kinds
-use Rattle.mol_values.specs.declared.itype.IType.TheViews.{roll-IType}
+use Rattle.mol_spell_rules.specs.Writers.{Importable, Reference, Use, Writer, outside_import, program_class, spelled, text_of, type_asked, use_of, written_use}
+use Rattle.mol_values_types.specs.declared.itype.IType.{IType}
+use Rattle.mol_values_types.specs.declared.itype.IType.TheFolds.{fold-roll-IType, map-IType}
+use Rattle.mol_values_types.specs.declared.itype.IType.TheOpen.{IType-F}
+use Rattle.mol_values_types.specs.declared.itype.IType.TheVariants as kinds
+use Rattle.mol_values_types.specs.declared.itype.IType.TheViews.{roll-IType}
 use Rattle.mol_spell_expr.specs.Importables.{hides_at}
+use Rattle.mol_spell_expr.specs.declared.type_place.TypePlace.{TypePlace}
 
-module _ (writer : Writer) (locals : Locals Id) (asking : Asks) where
+module _ (writer : Writer) (locals : Locals Id) (place : TypePlace) where
   abbrev hidden : Name → Bool
-  hidden = hides_at writer locals (place_of asking)
+  hidden = hides_at writer locals place
 
   abbrev of : IType → List Reference
-  of = asked_references writer locals asking
+  of = type_references writer locals place
 
   -- the name of a type
   abbrev pub named : Target → Name → Use → Reference
-  named target text used = record { target = target; asked = asked_by asking text; uses = Some used; locals = locals }
+  named target text used = record { target = target; asked = type_asked text; uses = Some used; locals = locals }
 
   -- what may be imported, and the names that follow it
   abbrev pub importable : Target → Importable → Name → Reference
   importable target what rest =
       named target (imported_text (text_of (spelled writer hidden what)) rest) (use_of writer hidden what)
 
-  made : (x : IType-F IType) → of (roll-IType x) ≡ (type_step writer hidden locals (asked_by asking)
-      (map-IType _ _ (spelled_type writer hidden locals (asked_by asking)) x)).references
+  made : (x : IType-F IType) → of (roll-IType x) ≡ (type_step writer hidden locals
+      (map-IType _ _ (spelled_type writer hidden locals) x)).references
   made x = ap (λ (part : SpelledType). part.references)
-      (fold-roll-IType SpelledType (type_step writer hidden locals (asked_by asking)) x)
+      (fold-roll-IType SpelledType (type_step writer hidden locals) x)
 
   pub names-Boolean : of kinds.Boolean ≡ []
   names-Boolean = ap of (sym kinds.rolls-Boolean) ∙ made IType-F.Boolean

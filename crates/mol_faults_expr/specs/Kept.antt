@@ -6,7 +6,7 @@ use Rattle.mol_faults_expr.specs.Noted.{Misreading}
 use Rattle.mol_faults_expr.specs.declared.misreads.Misread.{Misread}
 use Rattle.mol_faults_rules.specs.Kept.{kept_target}
 use Rattle.mol_resolve_rules.specs.ReadTrees.{Mode}
-use Rattle.mol_faults_support.specs.Met.{kept_met}
+use Rattle.mol_faults_rules.specs.Met.{kept_met}
 
 abbrev pub kept_misread : Misread → Misreading
 kept_misread misread = record {

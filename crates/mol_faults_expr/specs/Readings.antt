@@ -11,7 +11,7 @@ use Rattle.mol_resolve_rules.specs.Readers.{Reader}
 use Rattle.mol_spell_rules.specs.Answers.{answer}
 use Rattle.mol_spell_rules.specs.ReadInstead.{asked_instead}
 use Rattle.mol_spell_rules.specs.Writers.{Asked}
-use Rattle.mol_faults_support.specs.Met.{is_of_program, kept_met}
+use Rattle.mol_faults_rules.specs.Met.{is_of_program, kept_met}
 
 -- a target, if it is of the program and no local
 abbrev pub program_target : Target → Option Target

@@ -5,46 +5,23 @@ use Rattle.mol_base.specs.declared.ident.Id.{Id}
 use Rattle.jav_names.specs.DottedNames.{Name}
 use Rattle.jav_names.specs.OnValues.{StaticType}
 use Rattle.mol_faults_expr.specs.Names.{field_on_reference, method_on_reference, outside_call_reference, outside_field_reference, outside_on_reference, outside_super_reference, super_reference}
-use Rattle.mol_faults_expr.specs.declared.types.Asks.{Asks}
-use Rattle.mol_faults_expr.specs.declared.types.Asks.TheVariants as asks
 use Rattle.mol_resolve_rules.specs.Locals.{Locals}
 use Rattle.mol_resolve_rules.specs.ReadTrees.{Mode, before}
 use Rattle.mol_resolve_rules.specs.StaticTypes.{class_of_only_declaration}
 use Rattle.mol_spell_rules.specs.SpelledExpressions.{call_form, call_reference, constructor_reference, field_reference, name_of, own_form, spelled_expr, static_call_form}
 use Rattle.mol_spell_rules.specs.SpelledTypes.{spelled_type}
-use Rattle.mol_spell_rules.specs.Writers.{Asked, Reference, Writer, constructor_asked, type_asked}
-use Rattle.mol_values.specs.declared.iexpr.Argument.{Argument}
-use Rattle.mol_values.specs.declared.iexpr.IExpr.{IExpr}
-use Rattle.mol_values.specs.declared.itype.IType.{IType}
+use Rattle.mol_spell_rules.specs.Writers.{Reference, Writer}
+use Rattle.mol_values_types.specs.declared.iexpr.Argument.{Argument}
+use Rattle.mol_values_types.specs.declared.iexpr.IExpr.{IExpr}
+use Rattle.mol_values_types.specs.declared.itype.IType.{IType}
 use Rattle.mol_spell_expr.specs.Importables.{hides_at}
 use Rattle.mol_spell_expr.specs.declared.type_place.TypePlace.{TypePlace}
 use Rattle.mol_spell_expr.specs.declared.type_place.TypePlace.TheVariants as places
 
--- ---- what the name of a type asks
-
-abbrev pub place_of : Asks → TypePlace
-place_of (asks.Type place) = place
-place_of (asks.Constructor arity) = places.Expression
-
-abbrev pub asked_by : Asks → Name → Asked
-asked_by (asks.Type place) = λ text. type_asked text
-asked_by (asks.Constructor arity) = λ text. constructor_asked text arity
-
 module _ (writer : Writer) (locals : Locals Id) where
-  -- ---- types
-
-  -- of a type whose name asks this
-  abbrev pub asked_references : Asks → IType → List Reference
-  asked_references asking type =
-      (spelled_type writer (hides_at writer locals (place_of asking)) locals (asked_by asking) type).references
-
   -- of a type at such a place
   abbrev pub type_references : TypePlace → IType → List Reference
-  type_references place type = asked_references (asks.Type place) type
-
-  -- of the type after `new`, before so many arguments
-  abbrev pub created_references : ℕ → IType → List Reference
-  created_references arity type = asked_references (asks.Constructor arity) type
+  type_references place type = (spelled_type writer (hides_at writer locals place) locals type).references
 
   -- ---- expressions
 
@@ -122,9 +99,6 @@ module _ (writer : Writer) (locals : Locals Id) where
   creation_references constructor args =
       constructor_reference writer locals (class_of_only_declaration writer.program constructor) constructor (length args)
       ∷ argument_references args
-
-  abbrev pub outside_creation_references : IType → List IExpr → List Reference
-  outside_creation_references type args = created_references (length args) type ++ all_references args
 
   -- a type, and expressions after it
   abbrev pub typed_references : IType → List IExpr → List Reference

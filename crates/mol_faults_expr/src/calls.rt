@@ -13,7 +13,7 @@ use crate::values::result_value;
 use mol_base::{Id, OutOfMemory, Text};
 use mol_scope::StaticType;
 use mol_spell_expr::Names;
-use mol_values::{Argument, IExpr};
+use mol_values_types::{Argument, IExpr};
 
 impl<'a: 'n, 'n, N: Names> ExprReader<'a, 'n, N> {
     /// Reads a call of a method of `this`.

@@ -14,7 +14,7 @@ use crate::values::field_value;
 use mol_base::{Id, OutOfMemory, Text};
 use mol_scope::StaticType;
 use mol_spell_expr::Names;
-use mol_values::IExpr;
+use mol_values_types::IExpr;
 
 impl<'a: 'n, 'n, N: Names> ExprReader<'a, 'n, N> {
     /// Reads an expression before a dot and names that follow it.

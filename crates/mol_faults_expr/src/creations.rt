@@ -5,7 +5,7 @@ ghost use Rattle.jav_names.specs.StaticTypes.{of_type};
 ghost use Rattle.mol_faults_expr.specs.Names.{created_value};
 ghost use Rattle.mol_faults_expr.specs.Noted.{IsRead};
 ghost use Rattle.mol_faults_expr.specs.Places.{AreReadAt};
-ghost use Rattle.mol_faults_expr.specs.References.{all_references, creation_references, outside_creation_references, typed_references};
+ghost use Rattle.mol_faults_expr.specs.References.{all_references, creation_references, typed_references};
 ghost use Rattle.mol_resolve_rules.specs.ProgramViews.{seen};
 ghost use Rattle.mol_resolve_rules.specs.ReadTrees.{arrays};
 ghost use Rattle.mol_resolve_rules.specs.StaticTypes.{class_of_only_declaration};
@@ -15,7 +15,7 @@ use crate::misreads::Misreads;
 use mol_base::{Id, OutOfMemory};
 use mol_scope::StaticType;
 use mol_spell_expr::{Names, TypePlace};
-use mol_values::{Argument, IExpr, IType};
+use mol_values_types::{Argument, IExpr, IType};
 
 impl<'a: 'n, 'n, N: Names> ExprReader<'a, 'n, N> {
     /// Reads a creation by a constructor.
@@ -50,10 +50,10 @@ impl<'a: 'n, 'n, N: Names> ExprReader<'a, 'n, N> {
         requires { AreReadAt (N.writer self.now.names.now) (N.locals self.now.names.now) self.now.place self.now.locals.now }
         ensures { let writer = N.writer self.now.names.now in
             let locals = N.locals self.now.names.now in
-            IfOk result (λ kept. IsRead writer misreads.old misreads.new (outside_creation_references writer locals ty.now args.now)
+            IfOk result (λ kept. IsRead writer misreads.old misreads.new (typed_references writer locals ty.now args.now)
             outside_value kept) }
     {
-        self.note_created(misreads, ty, args.len())?;
+        self.note_type(misreads, TypePlace::Expression, ty)?;
         self.all(misreads, args)?;
         Ok(StaticType::Outside)
     }

@@ -11,14 +11,13 @@ ghost use Rattle.mol_spell_rules.specs.FaultList.{fault_target, outside_of};
 ghost use Rattle.mol_spell_rules.specs.NameFaults.{is_gone};
 ghost use Rattle.mol_spell_rules.specs.ReadInstead.{instead as read_instead};
 ghost use Rattle.mol_spell_rules.specs.Writers.{Reference};
-ghost use Rattle.mol_faults_support.specs.Met.{kept_met};
+ghost use Rattle.mol_faults_rules.specs.Met.{kept_met};
 
 use crate::misreads::Misreads;
 use crate::reading::{Reading, met_in};
 use mol_base::{OutOfMemory, Text};
 use mol_faults_names::InsteadPlace;
-use mol_faults_rules::Target as FaultTarget;
-use mol_faults_support::Met;
+use mol_faults_rules::{Met, Target as FaultTarget};
 use mol_scope::{NamePlace, Target};
 use mol_spell_expr::Names;
 use mol_spell_places::BodyLocals;

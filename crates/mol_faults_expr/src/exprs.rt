@@ -9,7 +9,7 @@ use crate::misreads::Misreads;
 use mol_base::OutOfMemory;
 use mol_scope::StaticType;
 use mol_spell_expr::Names;
-use mol_values::{Argument, IExpr};
+use mol_values_types::{Argument, IExpr};
 
 impl<'a: 'n, 'n, N: Names> ExprReader<'a, 'n, N> {
     /// Notes the names of an expression that stands alone, in the order in which they print. The time is linear in its size, but for what

@@ -3,11 +3,10 @@ ghost use Rattle.std.specs.Prelude.{◌≡◌, ◌++◌, ◌∷◌, suc, [], OnO
 ghost use Rattle.mol_faults_expr.specs.Kept.{kept_misread};
 ghost use Rattle.mol_faults_expr.specs.Noted.{none_noted};
 ghost use Rattle.mol_faults_rules.specs.Kept.{kept_target};
-ghost use Rattle.mol_faults_support.specs.Met.{kept_met};
+ghost use Rattle.mol_faults_rules.specs.Met.{kept_met};
 
 use mol_base::OutOfMemory;
-use mol_faults_rules::Target;
-use mol_faults_support::Met;
+use mol_faults_rules::{Met, Target};
 use std::alloc::Global;
 use std::marker::Model;
 

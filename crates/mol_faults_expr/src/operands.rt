@@ -18,7 +18,7 @@ use crate::reads::index_reads;
 use mol_base::{OutOfMemory, Text, is_step};
 use mol_scope::{StaticType, Target, common};
 use mol_spell_expr::{Names, TypePlace};
-use mol_values::{IExpr, IType};
+use mol_values_types::{IExpr, IType};
 
 impl<'a: 'n, 'n, N: Names> ExprReader<'a, 'n, N> {
     /// Reads a choice between two values.

@@ -3,9 +3,9 @@ ghost use Rattle.std.specs.Prelude.{◌≡◌, option_map};
 ghost use Rattle.std.specs.Option.{option_and_then};
 ghost use Rattle.mol_scope.specs.asked.Answers.{answer_of, target_of};
 ghost use Rattle.mol_faults_expr.specs.Readings.{kept_reading, program_target, reading};
-ghost use Rattle.mol_faults_support.specs.Met.{kept_met};
+ghost use Rattle.mol_faults_rules.specs.Met.{kept_met};
 
-use mol_faults_support::Met;
+use mol_faults_rules::Met;
 use mol_scope::{Answer, Target};
 
 /// How a name reads.

@@ -4,28 +4,19 @@ ghost use Rattle.jav_names.specs.TypeTexts.{imported_text};
 ghost use Rattle.mol_scope.specs.asked.Answers.{target_of};
 ghost use Rattle.mol_faults_expr.specs.Noted.{note, noted_after};
 ghost use Rattle.mol_faults_expr.specs.Places.{AreReadAt};
-ghost use Rattle.mol_faults_expr.specs.References.{asked_by, asked_references, created_references, place_of, type_references};
-ghost use Rattle.mol_spell_rules.specs.Writers.{Reference};
-ghost use Rattle.mol_values.specs.declared.itype.IType.TheVariants as types;
+ghost use Rattle.mol_faults_expr.specs.References.{type_references};
+ghost use Rattle.mol_spell_rules.specs.Writers.{Reference, type_asked};
+ghost use Rattle.mol_values_types.specs.declared.itype.IType.TheVariants as types;
 
 use crate::expr_reader::ExprReader;
 use crate::misreads::Misreads;
-use crate::reads::{constructor_reads, type_reads};
+use crate::reads::type_reads;
 use crate::spelled::with_dot;
-use mol_base::{Id, OutOfMemory, Text, number_of};
+use mol_base::{Id, OutOfMemory, Text};
 use mol_scope::Target;
 use mol_spell_expr::{Importable, Names, TypePlace};
-use mol_values::IType;
+use mol_values_types::IType;
 use std::alloc::Global;
-
-/// What the name of a type asks for, and where.
-#[derive(Clone, Copy)]
-pub(crate) enum Asks {
-    /// The type, at such a place.
-    Type(TypePlace),
-    /// Its constructor that takes so many arguments, in an expression.
-    Constructor(u32),
-}
 
 impl<N: Names> ExprReader<'_, '_, N> {
     /// Notes the name in a type at such a place, if there is one.
@@ -40,32 +31,6 @@ impl<N: Names> ExprReader<'_, '_, N> {
             let locals = N.locals self.now.names.now in
             OnOk result (misreads.new ≡ noted_after writer misreads.old (type_references writer locals place ty.now)) }
     {
-        self.note_names(misreads, Asks::Type(place), ty)
-    }
-
-    /// Notes the name in the type after `new`, before so many arguments, if there is one.
-    pub(crate) fn note_created(
-        &self,
-        misreads: &mut Misreads,
-        ty: &IType,
-        arity: usize,
-    ) -> Result<(), OutOfMemory>
-        requires { AreReadAt (N.writer self.now.names.now) (N.locals self.now.names.now) self.now.place self.now.locals.now }
-        ensures { let writer = N.writer self.now.names.now in
-            let locals = N.locals self.now.names.now in
-            OnOk result (misreads.new ≡ noted_after writer misreads.old (created_references writer locals arity ty.now)) }
-    {
-        let arity = number_of(arity)?;
-        self.note_names(misreads, Asks::Constructor(arity), ty)
-    }
-
-    /// Notes the name in a type that asks for this, if there is one.
-    fn note_names(&self, misreads: &mut Misreads, asks: Asks, ty: &IType) -> Result<(), OutOfMemory>
-        requires { AreReadAt (N.writer self.now.names.now) (N.locals self.now.names.now) self.now.place self.now.locals.now }
-        ensures { let writer = N.writer self.now.names.now in
-            let locals = N.locals self.now.names.now in
-            OnOk result (misreads.new ≡ noted_after writer misreads.old (asked_references writer locals asks ty.now)) }
-    {
         match ty {
             IType::Boolean => Ok(()),
             IType::Byte => Ok(()),
@@ -74,87 +39,73 @@ impl<N: Names> ExprReader<'_, '_, N> {
             IType::Int => Ok(()),
             IType::Long => Ok(()),
             IType::Void => Ok(()),
-            IType::Class(class) => self.note_class(misreads, asks, class),
+            IType::Class(class) => self.note_class(misreads, place, class),
             IType::Imported(full, rest) => self.note_imported(
                 misreads,
-                asks,
+                place,
                 full,
                 rest.get().as_str(),
             ),
             IType::Written(text) => {
                 let text = text.as_str();
-                self.note_name(misreads, asks, &Target::Outside(text), text)
+                self.note_name(misreads, &Target::Outside(text), text)
             },
-            IType::Array(item) => self.note_names(misreads, asks, item.get()),
+            IType::Array(item) => self.note_type(misreads, place, item.get()),
         }
     }
 
     /// Notes the name of a class.
-    fn note_class(&self, misreads: &mut Misreads, asks: Asks, class: &Id) -> Result<(), OutOfMemory>
+    fn note_class(
+        &self,
+        misreads: &mut Misreads,
+        place: TypePlace,
+        class: &Id,
+    ) -> Result<(), OutOfMemory>
         requires { AreReadAt (N.writer self.now.names.now) (N.locals self.now.names.now) self.now.place self.now.locals.now }
         ensures { let writer = N.writer self.now.names.now in
             let locals = N.locals self.now.names.now in
-            OnOk result (misreads.new ≡ noted_after writer misreads.old (asked_references writer locals asks (types.Class class.now))) }
+            OnOk result (misreads.new ≡ noted_after writer misreads.old (type_references writer locals place (types.Class class.now))) }
     {
-        let spelled = self.spelled(place_of(asks), Importable::Class(class))?;
+        let spelled = self.spelled(place, Importable::Class(class))?;
         let target = Target::Class(*class);
-        self.note_name(misreads, asks, &target, spelled.text.as_str())
+        self.note_name(misreads, &target, spelled.text.as_str())
     }
 
     /// Notes the name of an imported type, and after a dot the names that follow it, if there are any.
     fn note_imported(
         &self,
         misreads: &mut Misreads,
-        asks: Asks,
+        place: TypePlace,
         full: &Text,
         rest: &str,
     ) -> Result<(), OutOfMemory>
         requires { AreReadAt (N.writer self.now.names.now) (N.locals self.now.names.now) self.now.place self.now.locals.now }
         ensures { let writer = N.writer self.now.names.now in
             let locals = N.locals self.now.names.now in
-            let references = asked_references writer locals asks (types.Imported full.now rest.now) in
+            let references = type_references writer locals place (types.Imported full.now rest.now) in
             OnOk result (misreads.new ≡ noted_after writer misreads.old references) }
     {
-        let spelled = self.spelled(place_of(asks), Importable::Import(full))?;
+        let spelled = self.spelled(place, Importable::Import(full))?;
         let text = imported_text(self.alloc, spelled.text.as_str(), rest)?;
         let whole = imported_text(self.alloc, full.as_str(), rest)?;
         let target = Target::Outside(whole.as_str());
-        self.note_name(misreads, asks, &target, text.as_str())
+        self.note_name(misreads, &target, text.as_str())
     }
 
     /// Notes the name of a type, by what it is the name of.
     fn note_name(
         &self,
         misreads: &mut Misreads,
-        asks: Asks,
         target: &Target<'_>,
         text: &str,
     ) -> Result<(), OutOfMemory>
         requires { AreReadAt (N.writer self.now.names.now) (N.locals self.now.names.now) self.now.place self.now.locals.now }
         ensures { let writer = N.writer self.now.names.now in
             OnOk result ((reference : Reference) → target_of target.now ≡ reference.target
-            → reference.asked ≡ asked_by asks text.now → misreads.new ≡ note writer misreads.old reference) }
+            → reference.asked ≡ type_asked text.now → misreads.new ≡ note writer misreads.old reference) }
     {
-        match asks {
-            Asks::Type(_) => {
-                let reads = type_reads(&self.place, target, text);
-                self.note(misreads, target, reads)
-            },
-            Asks::Constructor(arity) => {
-                let reads = constructor_reads(&self.place, target, text, arity);
-                self.note(misreads, target, reads)
-            },
-        }
-    }
-}
-
-/// Where a name stands that asks for this.
-fn place_of(asks: Asks) -> TypePlace
-    ensures { result ≡ place_of asks }
-{
-    match asks {
-        Asks::Type(place) => place,
-        Asks::Constructor(_) => TypePlace::Expression,
+        let reads = type_reads(&self.place, target, text);
+        self.note(misreads, target, reads)
     }
 }
 

@@ -1,14 +1,14 @@
 //! The static types of what is named by its identity.
 ghost use Rattle.std.specs.Prelude.{◌≡◌, find, option_copied};
 ghost use Rattle.mol_resolve_rules.specs.StaticTypes.{field_value, param_value, present_param, result_value};
-ghost use Rattle.mol_table.specs.Program.{same_id};
+ghost use Rattle.mol_table_rules.specs.Program.{same_id};
 ghost use Rattle.mol_scope.specs.types.Kept.{view_value};
 
 use mol_base::Id;
 use mol_scope::StaticType;
 use mol_scope_classes::params_of;
 use mol_table::Table;
-use mol_values::{Cell, Param, Slot, Value};
+use mol_values_types::{Cell, Param, Slot, Value};
 
 /// The static type of a field; mixed where this is none. It takes no memory.
 pub(crate) fn field_value<'a>(table: &'a Table, field: &Id) -> StaticType<'a>

@@ -18,7 +18,7 @@ use Rattle.mol_resolve_rules.specs.Locals.{Locals}
 use Rattle.mol_resolve_rules.specs.Readers.{Reader}
 use Rattle.mol_resolve_rules.specs.StaticTypes.{field_value}
 use Rattle.mol_spell_rules.specs.Answers.{field_of, on_value_answer}
-use Rattle.mol_table.specs.Program.{Program}
+use Rattle.mol_table_rules.specs.Program.{Program}
 use Rattle.mol_scope.specs.variables.Keys.{variable_key}
 use Rattle.mol_scope.specs.declared.variables.variable.Variable.TheVariants as kept
 

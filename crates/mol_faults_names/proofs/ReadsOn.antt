@@ -7,7 +7,7 @@ use Rattle.mol_base.specs.declared.ident.Id.{Id}
 use Rattle.mol_faults_names.specs.Reads.{Reads, next_read, reads_on}
 use Rattle.mol_resolve_rules.specs.Readers.{Reader}
 use Rattle.mol_resolve_rules.specs.ReadTrees.{path_by}
-use Rattle.mol_table.specs.Program.{Program}
+use Rattle.mol_table_rules.specs.Program.{Program}
 
 module _ (program : Program) (reader : Reader Id Id) (leftmost : Leftmost Id Id) where
   abbrev on : ℕ → Option Reads → Names → Option Reads

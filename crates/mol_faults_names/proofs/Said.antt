@@ -31,14 +31,14 @@ use Rattle.mol_resolve_rules.specs.StaticTypes.{field_value, field_value_in}
 use Rattle.mol_spell_rules.proofs.NamesBack.{answered-by}
 use Rattle.mol_spell_rules.specs.ReadInstead.{word_target}
 use Rattle.mol_spell_rules.specs.SpelledExpressions.{dot_tree, dots_tree, name_tree, names_tree}
-use Rattle.mol_table.specs.Program.{Program, living_at, owner_at, value_at}
-use Rattle.mol_values.specs.declared.cell.Slot.TheVariants as slots
-use Rattle.mol_values.specs.declared.iexpr.IExpr.{IExpr}
-use Rattle.mol_values.specs.declared.iexpr.IExpr.TheVariants as exprs
-use Rattle.mol_values.specs.declared.known.Known.{Known}
-use Rattle.mol_values.specs.declared.known.Known.TheVariants as knowns
-use Rattle.mol_values.specs.declared.value.Value.{Value}
-use Rattle.mol_values.specs.declared.value.Value.TheVariants as values
+use Rattle.mol_table_rules.specs.Program.{Program, living_at, owner_at, value_at}
+use Rattle.mol_values_types.specs.declared.cell.Slot.TheVariants as slots
+use Rattle.mol_values_types.specs.declared.iexpr.IExpr.{IExpr}
+use Rattle.mol_values_types.specs.declared.iexpr.IExpr.TheVariants as exprs
+use Rattle.mol_values_types.specs.declared.known.Known.{Known}
+use Rattle.mol_values_types.specs.declared.known.Known.TheVariants as knowns
+use Rattle.mol_values_types.specs.declared.value.Value.{Value}
+use Rattle.mol_values_types.specs.declared.value.Value.TheVariants as values
 
 -- Two static types are one; or neither has members, where a field has no type.
 abbrev pub Alike : StaticType Id → StaticType Id → Type 0

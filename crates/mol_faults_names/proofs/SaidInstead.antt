@@ -19,7 +19,7 @@ use Rattle.mol_spell_rules.specs.Answers.{answer, method_of, method_through_answ
 use Rattle.mol_spell_rules.specs.ReadInstead.{asked_instead, class_begun, method_instead, path_instead, read_before, word_target}
 use Rattle.mol_spell_rules.specs.SpelledExpressions.{dot_tree, dots_tree, name_tree, names_tree}
 use Rattle.mol_spell_rules.specs.Writers.{path_asked, static_field_asked, static_method_asked}
-use Rattle.mol_table.specs.Program.{Program}
+use Rattle.mol_table_rules.specs.Program.{Program}
 
 said-target : (v : Option (Meant Id)) (r : Option Reads) → Says v r
     → option_map (λ (read : Reads). read.target) r ≡ option_and_then (λ (m : Meant Id). word_target m.tree) v

@@ -6,10 +6,10 @@ use Rattle.mol_spell_rules.specs.references.References.{Target, field_target, lo
 use Rattle.mol_resolve_rules.specs.ReadTrees.{Meant, field_on_word, field_word}
 use Rattle.mol_resolve_rules.specs.Readers.{Reader}
 use Rattle.mol_spell_rules.specs.ReadInstead.{word_step, argument_step, word_target}
-use Rattle.mol_values.specs.declared.iexpr.IExpr.{IExpr}
-use Rattle.mol_values.specs.declared.iexpr.IExpr.TheFolds.{fold-roll-IExpr}
-use Rattle.mol_values.specs.declared.iexpr.IExpr.TheOpen.{IExpr-F}
-use Rattle.mol_values.specs.declared.iexpr.IExpr.TheVariants as exprs
+use Rattle.mol_values_types.specs.declared.iexpr.IExpr.{IExpr}
+use Rattle.mol_values_types.specs.declared.iexpr.IExpr.TheFolds.{fold-roll-IExpr}
+use Rattle.mol_values_types.specs.declared.iexpr.IExpr.TheOpen.{IExpr-F}
+use Rattle.mol_values_types.specs.declared.iexpr.IExpr.TheVariants as exprs
 
 pub word-Local : (number : ℕ) → word_target (exprs.Local number) ≡ Some (local_target number)
 word-Local number = ap word_target (sym (exprs.rolls-Local number))

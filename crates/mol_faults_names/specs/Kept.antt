@@ -21,7 +21,7 @@ use Rattle.mol_spell_rules.specs.references.References.{Target, field_target, lo
 use Rattle.mol_resolve_rules.specs.Locals.{Locals}
 use Rattle.mol_resolve_rules.specs.Readers.{Reader, place_of}
 use Rattle.mol_resolve_rules.specs.ReadTrees.{ClassPath, whole_path, front_path, no_path}
-use Rattle.mol_table.specs.Program.{Program}
+use Rattle.mol_table_rules.specs.Program.{Program}
 use Rattle.mol_scope.specs.types.Kept.{view_value}
 
 abbrev pub word_of : Word → Target

@@ -15,7 +15,7 @@ use Rattle.mol_resolve_rules.specs.Readers.{Parameter, Reader}
 use Rattle.mol_resolve_rules.specs.ReadTrees.{ClassPath, whole_path, front_path, no_path, path_by}
 use Rattle.mol_resolve_rules.specs.StaticTypes.{field_value}
 use Rattle.mol_spell_rules.specs.Answers.{field_of, method_of, on_value_answer}
-use Rattle.mol_table.specs.Program.{Program}
+use Rattle.mol_table_rules.specs.Program.{Program}
 
 -- what the last name is the name of, and the static type of its value
 pub record Reads : Type 0 where

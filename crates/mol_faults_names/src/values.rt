@@ -17,7 +17,7 @@ use mol_base::{Id, Text};
 use mol_scope::{Answer, StaticType, field_of};
 use mol_scope_classes::is_static_field;
 use mol_table::Table;
-use mol_values::{Cell, Slot, Value};
+use mol_values_types::{Cell, Slot, Value};
 
 impl<'a, 'b> InsteadPlace<'_, 'a, 'b> {
     /// What one more name reads as after a dot: after names that spell a class, or after what they read as. It takes no memory, and as much

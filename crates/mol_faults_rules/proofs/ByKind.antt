@@ -10,7 +10,7 @@ use Rattle.jav_names.proofs.Lists.{All-from_each, stands_nowhere}
 use Rattle.jav_names.proofs.UnitsOrdered.{ascending-append}
 use Rattle.mol_faults_rules.specs.OfKind.{AreOfKind, AreByKind, FaultsByKind, kinds}
 use Rattle.mol_spell_rules.specs.FaultList.{entity, default_of, local_of, outside_of, Fault, same_address, false_override, apart, outside_name, missing, misread, local_clash, package_is_class, IsFault, fault_key, fault_cmp}
-use Rattle.mol_table.specs.Program.{Program}
+use Rattle.mol_table_rules.specs.Program.{Program}
 
 abbrev kind_of : Fault → ℕ
 kind_of fault = (fault_key fault).kind

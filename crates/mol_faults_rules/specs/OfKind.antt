@@ -5,7 +5,7 @@ use Rattle.std.specs.List.Sorted.{IsStrictlySortedBy}
 use Rattle.mol_faults_rules.specs.Kept.{kept_fault}
 use Rattle.mol_faults_rules.specs.declared.fault.Fault.{Fault as Kept}
 use Rattle.mol_spell_rules.specs.FaultList.{Fault, IsFault, fault_key, fault_cmp, AreFaults}
-use Rattle.mol_table.specs.Program.{Program}
+use Rattle.mol_table_rules.specs.Program.{Program}
 
 -- These are all faults of one kind of a program, each once, in order. Kinds have the numbers of `fault_key`.
 pub record AreOfKind (program : Program) (kind : ℕ) (faults : List Fault) : Type 0 where

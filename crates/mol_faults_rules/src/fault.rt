@@ -1,7 +1,10 @@
 //! Faults.
+ghost use Rattle.std.specs.Prelude.{◌≡◌, IfOk};
+
 use crate::Target;
-use mol_base::{Id, Text};
-use mol_values::Cell;
+use mol_base::{Id, OutOfMemory, Text};
+use mol_values_types::Cell;
+use std::alloc::Global;
 
 /// A fault of a program. The order of the variants is that of the kinds, in which faults are listed.
 #[derive(Drop)]
@@ -24,4 +27,41 @@ pub enum Fault {
     /// A class whose full name is the package of another one, or whose full name and a dot begin that package, and that other class
     /// (JLS 7.1).
     PackageIsClass(Id, Id),
+}
+
+impl Fault {
+    /// A fault that equals this one. `Err` is want of memory.
+    pub fn copy(&self, alloc: Global) -> Result<Fault, OutOfMemory>
+        ensures { IfOk result (λ copy. copy ≡ self.now) }
+    {
+        match self {
+            Fault::SameAddress(first, second) => Ok(Fault::SameAddress(*first, *second)),
+            Fault::FalseOverride(first, second) => Ok(Fault::FalseOverride(*first, *second)),
+            Fault::Apart(method) => Ok(Fault::Apart(*method)),
+            Fault::OutsideName(method) => Ok(Fault::OutsideName(*method)),
+            Fault::Missing(at, target) => Ok(Fault::Missing(*at, *target)),
+            Fault::Misread(at, number, target) => copy_misread(alloc, at, *number, target),
+            Fault::LocalClash(at, name) => copy_clash(alloc, at, name),
+            Fault::PackageIsClass(class, inside) => Ok(Fault::PackageIsClass(*class, *inside)),
+        }
+    }
+}
+
+/// The fault of a misread reference, with a target that equals this one.
+fn copy_misread(
+    alloc: Global,
+    at: &Cell,
+    number: u32,
+    target: &Target,
+) -> Result<Fault, OutOfMemory>
+    ensures { IfOk result (λ fault. fault ≡ Fault.Misread at.now number target.now) }
+{
+    Ok(Fault::Misread(*at, number, target.copy(alloc)?))
+}
+
+/// The fault of a name that is declared twice, with a name that equals this one.
+fn copy_clash(alloc: Global, at: &Cell, name: &Text) -> Result<Fault, OutOfMemory>
+    ensures { IfOk result (λ fault. fault ≡ Fault.LocalClash at.now name.now) }
+{
+    Ok(Fault::LocalClash(*at, name.copy(alloc)?))
 }

@@ -1,5 +1,6 @@
 //! Targets of names in faults.
-use mol_base::{Id, Text};
+use mol_base::{Id, OutOfMemory, Text};
+use std::alloc::Global;
 
 /// What a name is the name of.
 #[derive(Drop)]
@@ -12,4 +13,20 @@ pub enum Target {
     Local(u32),
     /// What is outside, by its text: of an imported type its full name and what follows it, else as it is written, `super` or `[]`.
     Outside(Text),
+}
+
+impl Target {
+    ghost use Rattle.std.specs.Prelude.{◌≡◌, IfOk};
+
+    /// A target that equals this one. `Err` is want of memory.
+    pub fn copy(&self, alloc: Global) -> Result<Target, OutOfMemory>
+        ensures { IfOk result (λ copy. copy ≡ self.now) }
+    {
+        match self {
+            Target::Entity(id) => Ok(Target::Entity(*id)),
+            Target::Default(class) => Ok(Target::Default(*class)),
+            Target::Local(number) => Ok(Target::Local(*number)),
+            Target::Outside(text) => Ok(Target::Outside(text.copy(alloc)?)),
+        }
+    }
 }

@@ -12,14 +12,14 @@ use Rattle.mol_base.specs.declared.ident.Id.{Id}
 use Rattle.mol_resolve_rules.proofs.Stands.{in_front, behind, in_either, from_some, in_some}
 use Rattle.mol_spell_rules.specs.Support.{IsConstructorOf, IsDeclarationOf}
 use Rattle.mol_faults_support.specs.Declarations.{DeclaresAny, ConstructsAny, AreSame, listed, declaration_if, declaration_among, owned_if, constructed_if, constructor_if, constructor_among}
-use Rattle.mol_table.proofs.Living.{id_tied}
-use Rattle.mol_table.specs.Identities.{AreKnown}
-use Rattle.mol_table.specs.Program.{Program, same_id, owner_at}
-use Rattle.mol_values.proofs.Ties.{any_tied}
-use Rattle.mol_values.specs.Order.{id_eq}
-use Rattle.mol_values.specs.declared.kind.MethodKind.TheVariants.{Instance, Static, Constructor}
-use Rattle.mol_values.specs.declared.known.Known.{Known}
-use Rattle.mol_values.specs.declared.known.Known.TheVariants as knowns
+use Rattle.mol_table_rules.proofs.Living.{id_tied}
+use Rattle.mol_table_rules.specs.Identities.{AreKnown}
+use Rattle.mol_table_rules.specs.Program.{Program, same_id, owner_at}
+use Rattle.mol_values_types.proofs.Ties.{any_tied}
+use Rattle.mol_values_types.specs.Order.{id_eq}
+use Rattle.mol_values_types.specs.declared.kind.MethodKind.TheVariants.{Instance, Static, Constructor}
+use Rattle.mol_values_types.specs.declared.known.Known.{Known}
+use Rattle.mol_values_types.specs.declared.known.Known.TheVariants as knowns
 
 -- ---- sets
 

@@ -11,8 +11,8 @@ use Rattle.mol_spell_rules.specs.FaultList.{FaultTarget, misread, local_clash}
 use Rattle.mol_spell_rules.specs.references.References.{Target}
 use Rattle.mol_faults_support.specs.Met.{HasMet}
 use Rattle.mol_faults_support.specs.Rests.{RestsOn}
-use Rattle.mol_table.specs.Program.{Program}
-use Rattle.mol_values.specs.declared.cell.Cell.{Cell}
+use Rattle.mol_table_rules.specs.Program.{Program}
+use Rattle.mol_values_types.specs.declared.cell.Cell.{Cell}
 
 module _ {T E : Type 0} (r : Result T E) (items : T → List Cell) (program : Program) (fault : Kept) where
   abbrev Rests : Kept → Type 0

@@ -12,10 +12,10 @@ use Rattle.mol_faults_support.specs.Cells.{address_of, cells_of, declared_method
 use Rattle.mol_faults_support.specs.Declarations.{DeclaresAny}
 use Rattle.mol_faults_support.specs.Rests.{RestsOn, Adds, AreLives, IsOfCell, IsOfValue, called, created}
 use Rattle.mol_faults_support.specs.Ways.{AreAbove, AreBetweenOwners}
-use Rattle.mol_table.specs.Program.{Program, cell, method_of_param}
-use Rattle.mol_values.specs.declared.cell.Cell.{Cell}
-use Rattle.mol_values.specs.declared.cell.Slot.{Slot}
-use Rattle.mol_values.specs.declared.cell.Slot.TheVariants as slots
+use Rattle.mol_table_rules.specs.Program.{Program, cell, method_of_param}
+use Rattle.mol_values_types.specs.declared.cell.Cell.{Cell}
+use Rattle.mol_values_types.specs.declared.cell.Slot.{Slot}
+use Rattle.mol_values_types.specs.declared.cell.Slot.TheVariants as slots
 
 module _ (program : Program) where
   -- the declaration of one method

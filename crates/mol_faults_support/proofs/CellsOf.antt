@@ -9,13 +9,13 @@ use Rattle.mol_faults_support.specs.Cells.{cells_of, address_as, address_of, dec
 use Rattle.mol_faults_support.specs.Cells as kept
 use Rattle.mol_faults_support.specs.Declarations.{DeclaresAny}
 use Rattle.mol_faults_support.specs.Rests.{AreLives}
-use Rattle.mol_table.specs.Program.{Program, cell, method_of_param}
-use Rattle.mol_values.specs.Slots.{has_slot}
-use Rattle.mol_values.specs.declared.cell.Cell.{Cell}
-use Rattle.mol_values.specs.declared.cell.Slot.{Slot}
-use Rattle.mol_values.specs.declared.cell.Slot.TheVariants as slots
-use Rattle.mol_values.specs.declared.known.Known.{Known}
-use Rattle.mol_values.specs.declared.known.Known.TheVariants as knowns
+use Rattle.mol_table_rules.specs.Program.{Program, cell, method_of_param}
+use Rattle.mol_values_types.specs.Slots.{has_slot}
+use Rattle.mol_values_types.specs.declared.cell.Cell.{Cell}
+use Rattle.mol_values_types.specs.declared.cell.Slot.{Slot}
+use Rattle.mol_values_types.specs.declared.cell.Slot.TheVariants as slots
+use Rattle.mol_values_types.specs.declared.known.Known.{Known}
+use Rattle.mol_values_types.specs.declared.known.Known.TheVariants as knowns
 
 -- a list of one
 pub alone : {X : Type 0} (x y : X) → Contains (x ∷ []) y → x ≡ y

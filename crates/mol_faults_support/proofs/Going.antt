@@ -5,8 +5,8 @@ use Rattle.std.proofs.lemmas.List.Folds.{list_any-append}
 use Rattle.std.specs.List.{list_any}
 use Rattle.mol_base.specs.declared.ident.Id.{Id}
 use Rattle.mol_faults_support.proofs.UpWays.{nothing}
-use Rattle.mol_table.specs.Ancestors.{living_parent, unmet, walk}
-use Rattle.mol_table.specs.Program.{Program, same_id, parent_at}
+use Rattle.mol_table_rules.specs.Ancestors.{living_parent, unmet, walk}
+use Rattle.mol_table_rules.specs.Program.{Program, same_id, parent_at}
 
 -- After so many steps these are met, and this class is next, if it was not met: what is left of the walk follows.
 pub record Goes (program : Program) (steps : ℕ) (old : List Id) (class : Id) (now : List Id) (next : Option Id) (count : ℕ) : Type 0 where

@@ -9,16 +9,16 @@ use Rattle.std.specs.declared.cmp.Ordering.TheVariants.{Less, Equal, Greater}
 use Rattle.mol_spell_rules.specs.FaultList.{Fault}
 use Rattle.mol_spell_rules.specs.Support.{IsSupport}
 use Rattle.mol_faults_support.specs.Rests.{RestsOn}
-use Rattle.mol_table.proofs.CellOrder.{every_slot, slot_at, cell_cmp-IsAntisymmetric}
-use Rattle.mol_table.proofs.Counts.{tied}
-use Rattle.mol_table.specs.Program.{Program}
-use Rattle.mol_values.proofs.Ties.{cell_eq, cell_ties}
-use Rattle.mol_values.specs.Order.{slot_number, cell_cmp}
-use Rattle.mol_values.specs.contracts.cell.CellOrd as cells
-use Rattle.mol_values.specs.contracts.cell.SlotOrd as slots
-use Rattle.mol_values.specs.declared.cell.Cell.{Cell}
-use Rattle.mol_values.specs.declared.cell.Slot.{Slot}
-use Rattle.mol_values.specs.declared.cell.Slot.TheVariants.{Live, Package, Owner, Method, Name, Super, Result, Params, Kind, Fixed, Words, Notes, Body, Value}
+use Rattle.mol_table_rules.proofs.CellOrder.{every_slot, slot_at, cell_cmp-IsAntisymmetric}
+use Rattle.mol_table_rules.proofs.Counts.{tied}
+use Rattle.mol_table_rules.specs.Program.{Program}
+use Rattle.mol_values_types.proofs.Ties.{cell_eq, cell_ties}
+use Rattle.mol_values_types.specs.Order.{slot_number, cell_cmp}
+use Rattle.mol_values_types.specs.contracts.cell.CellOrd as cells
+use Rattle.mol_values_types.specs.contracts.cell.SlotOrd as slots
+use Rattle.mol_values_types.specs.declared.cell.Cell.{Cell}
+use Rattle.mol_values_types.specs.declared.cell.Slot.{Slot}
+use Rattle.mol_values_types.specs.declared.cell.Slot.TheVariants.{Live, Package, Owner, Method, Name, Super, Result, Params, Kind, Fixed, Words, Notes, Body, Value}
 
 -- ---- the order of slots, tried at each two of them
 

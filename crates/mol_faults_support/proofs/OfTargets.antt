@@ -12,18 +12,19 @@ use Rattle.mol_spell_rules.specs.FaultList.{FaultTarget, misread}
 use Rattle.mol_spell_rules.specs.Support.{Concerns, the_class, the_field, the_method, its_declaration, its_class, its_method, declaration_of_its_method, HeaderCell, IsDeclarationOf, LifeCell, Supports, misread_in, entity_of_misread, target_of_misread}
 use Rattle.mol_faults_support.proofs.CellsOf.{alone, one-of, of-one}
 use Rattle.mol_faults_support.specs.Declarations.{DeclaresAny}
-use Rattle.mol_faults_support.specs.Met.{kept_met, is_of_program, HasMet, entity_of, method_for, header_slots, header_of}
+use Rattle.mol_faults_rules.specs.Met.{kept_met, is_of_program}
+use Rattle.mol_faults_support.specs.Met.{HasMet, entity_of, method_for, header_slots, header_of}
 use Rattle.mol_faults_support.specs.Rests.{RestsOn, Adds, AreLives, IsOfTargets}
-use Rattle.mol_faults_support.specs.declared.met.Met.{Met}
-use Rattle.mol_table.specs.Program.{Program}
-use Rattle.mol_table.proofs.CellOrder.{every_slot, slot_at}
-use Rattle.mol_values.specs.Order.{slot_number}
-use Rattle.mol_values.specs.Slots.{has_slot, kind_of_known, same_slot, slots_of}
-use Rattle.mol_values.specs.declared.cell.Cell.{Cell}
-use Rattle.mol_values.specs.declared.cell.Slot.{Slot}
-use Rattle.mol_values.specs.declared.cell.Slot.TheVariants as slots
-use Rattle.mol_values.specs.declared.known.Known.{Known}
-use Rattle.mol_values.specs.declared.known.Known.TheVariants as knowns
+use Rattle.mol_faults_rules.specs.declared.met.Met.{Met}
+use Rattle.mol_table_rules.specs.Program.{Program}
+use Rattle.mol_table_rules.proofs.CellOrder.{every_slot, slot_at}
+use Rattle.mol_values_types.specs.Order.{slot_number}
+use Rattle.mol_values_types.specs.Slots.{has_slot, kind_of_known, same_slot, slots_of}
+use Rattle.mol_values_types.specs.declared.cell.Cell.{Cell}
+use Rattle.mol_values_types.specs.declared.cell.Slot.{Slot}
+use Rattle.mol_values_types.specs.declared.cell.Slot.TheVariants as slots
+use Rattle.mol_values_types.specs.declared.known.Known.{Known}
+use Rattle.mol_values_types.specs.declared.known.Known.TheVariants as knowns
 
 -- ---- slots
 

@@ -12,11 +12,11 @@ use Rattle.mol_faults_support.proofs.CellsOf.{single-of, of-single}
 use Rattle.mol_faults_support.specs.Calls.{called_as, called_by, AreConstructors}
 use Rattle.mol_faults_support.specs.Cells.{cells_of}
 use Rattle.mol_faults_support.specs.Rests.{Adds, IsOfCell, IsOfValue, called, created}
-use Rattle.mol_table.specs.Mentions.{Role, a_class, a_field, a_method, a_called_method, a_static_method, a_constructor, a_param, a_listed_param, mentions}
-use Rattle.mol_table.specs.Program.{Program, value_at, cell}
-use Rattle.mol_values.specs.declared.cell.Cell.{Cell}
-use Rattle.mol_values.specs.declared.cell.Slot.TheVariants as slots
-use Rattle.mol_values.specs.declared.value.Value.{Value}
+use Rattle.mol_table_rules.specs.Mentions.{Role, a_class, a_field, a_method, a_called_method, a_static_method, a_constructor, a_param, a_listed_param, mentions}
+use Rattle.mol_table_rules.specs.Program.{Program, value_at, cell}
+use Rattle.mol_values_types.specs.declared.cell.Cell.{Cell}
+use Rattle.mol_values_types.specs.declared.cell.Slot.TheVariants as slots
+use Rattle.mol_values_types.specs.declared.value.Value.{Value}
 
 -- ---- what a value calls
 

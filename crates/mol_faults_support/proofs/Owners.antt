@@ -11,11 +11,11 @@ use Rattle.mol_spell_rules.specs.Support.{IsAboveDeclaration, IsBetween, IsBetwe
 use Rattle.mol_faults_support.proofs.CellsOf.{alone}
 use Rattle.mol_faults_support.proofs.UpWays.{met-closed, met-is}
 use Rattle.mol_faults_support.specs.Ways.{fresh_way, AreAbove, AreBetweenOwner, AreBetweenOwners, IsClosed}
-use Rattle.mol_table.specs.Ancestors.{way}
-use Rattle.mol_table.specs.Identities.{AreKnown, IsAscending}
-use Rattle.mol_table.specs.Program.{Program, owner_at}
-use Rattle.mol_table.specs.Rules.{IsProgram}
-use Rattle.mol_values.specs.declared.known.Known.{Known}
+use Rattle.mol_table_rules.specs.Ancestors.{way}
+use Rattle.mol_table_rules.specs.Identities.{AreKnown, IsAscending}
+use Rattle.mol_table_rules.specs.Program.{Program, owner_at}
+use Rattle.mol_table_rules.specs.Rules.{IsProgram}
+use Rattle.mol_values_types.specs.declared.known.Known.{Known}
 
 some-same : (first second : Id) → Some first ≡ Some second → first ≡ second
 some-same first second is = cc

@@ -12,11 +12,11 @@ use Rattle.mol_resolve_rules.proofs.Stands.{behind}
 use Rattle.mol_spell_rules.specs.Support.{IsBetween}
 use Rattle.mol_faults_support.proofs.Among.{is-among}
 use Rattle.mol_faults_support.specs.Ways.{IsUpTo}
-use Rattle.mol_table.proofs.Living.{id_tied, same_id-own}
-use Rattle.mol_table.specs.Ancestors.{way}
-use Rattle.mol_table.specs.Program.{Program}
-use Rattle.mol_values.proofs.Ties.{id_ties}
-use Rattle.mol_values.specs.Order.{id_eq}
+use Rattle.mol_table_rules.proofs.Living.{id_tied, same_id-own}
+use Rattle.mol_table_rules.specs.Ancestors.{way}
+use Rattle.mol_table_rules.specs.Program.{Program}
+use Rattle.mol_values_types.proofs.Ties.{id_ties}
+use Rattle.mol_values_types.specs.Order.{id_eq}
 
 eq-own : (id : Id) → id_eq id id ≡ true
 eq-own id = id_ties id id ∙ same_id-own id

@@ -3,9 +3,9 @@ use Rattle.std.specs.Prelude.{◌↔◌, List, Option, None, Some, Contains}
 use Rattle.mol_base.specs.declared.ident.Id.{Id}
 use Rattle.mol_spell_rules.specs.DefaultCreations.{default_creations}
 use Rattle.mol_spell_rules.specs.Support.{IsConstructorOf}
-use Rattle.mol_table.specs.Mentions.{Role, Mention, a_called_method, a_static_method, a_constructor}
-use Rattle.mol_table.specs.Program.{Program}
-use Rattle.mol_values.specs.declared.value.Value.{Value}
+use Rattle.mol_table_rules.specs.Mentions.{Role, Mention, a_called_method, a_static_method, a_constructor}
+use Rattle.mol_table_rules.specs.Program.{Program}
+use Rattle.mol_values_types.specs.declared.value.Value.{Value}
 
 abbrev pub called_as : Role → Id → Option Id
 called_as a_called_method id = Some id

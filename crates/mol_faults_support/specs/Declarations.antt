@@ -4,11 +4,11 @@ use Rattle.std.specs.FinMap.{get}
 use Rattle.std.specs.List.{list_any}
 use Rattle.mol_base.specs.declared.ident.Id.{Id}
 use Rattle.mol_spell_rules.specs.Support.{IsDeclarationOf, IsConstructorOf}
-use Rattle.mol_table.specs.Program.{Program, owner_at}
-use Rattle.mol_values.specs.Order.{id_eq}
-use Rattle.mol_values.specs.declared.kind.MethodKind.TheVariants.{Constructor}
-use Rattle.mol_values.specs.declared.known.Known.{Known}
-use Rattle.mol_values.specs.declared.known.Known.TheVariants as knowns
+use Rattle.mol_table_rules.specs.Program.{Program, owner_at}
+use Rattle.mol_values_types.specs.Order.{id_eq}
+use Rattle.mol_values_types.specs.declared.kind.MethodKind.TheVariants.{Constructor}
+use Rattle.mol_values_types.specs.declared.known.Known.{Known}
+use Rattle.mol_values_types.specs.declared.known.Known.TheVariants as knowns
 
 -- These are the known declarations of the methods.
 abbrev pub DeclaresAny : Program → List Id → List Id → Type 0

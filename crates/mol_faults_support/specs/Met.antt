@@ -1,36 +1,18 @@
 -- What a misread reference is to be, and what is read instead.
-use Rattle.std.specs.Prelude.{◌↔◌, Bool, true, false, IsTrue, List, [], ◌∷◌, Option, None, Some, Contains}
+use Rattle.std.specs.Prelude.{◌↔◌, IsTrue, List, [], ◌∷◌, Option, None, Some, Contains}
 use Rattle.std.specs.FinMap.{get}
 use Rattle.mol_base.specs.declared.ident.Id.{Id}
 use Rattle.mol_spell_rules.specs.references.References.{Target, class_target, field_target, method_target, param_target, default_target, local_target, outside_target}
 use Rattle.mol_spell_rules.specs.FaultList.{Fault, same_address, false_override, apart, outside_name, missing, misread, local_clash, package_is_class}
 use Rattle.mol_spell_rules.specs.Support.{IsMetBy}
 use Rattle.mol_faults_support.specs.Cells.{cells_of}
-use Rattle.mol_faults_support.specs.declared.met.Met.{Met}
-use Rattle.mol_faults_support.specs.declared.met.Met.TheVariants as mets
-use Rattle.mol_table.specs.Program.{Program, method_of_param}
-use Rattle.mol_values.specs.declared.cell.Cell.{Cell}
-use Rattle.mol_values.specs.declared.cell.Slot.{Slot}
-use Rattle.mol_values.specs.declared.cell.Slot.TheVariants as slots
-use Rattle.mol_values.specs.declared.known.Known.{Known}
-use Rattle.mol_values.specs.declared.known.Known.TheVariants as knowns
-
-abbrev pub kept_met : Met → Target
-kept_met (mets.Class id) = class_target id
-kept_met (mets.Field id) = field_target id
-kept_met (mets.Method id) = method_target id
-kept_met (mets.Param id) = param_target id
-kept_met (mets.Default id) = default_target id
-
--- a target that is no local, and not outside
-abbrev pub is_of_program : Target → Bool
-is_of_program (class_target class) = true
-is_of_program (field_target field) = true
-is_of_program (method_target method) = true
-is_of_program (param_target param) = true
-is_of_program (default_target class) = true
-is_of_program (local_target number) = false
-is_of_program (outside_target text) = false
+use Rattle.mol_faults_rules.specs.Met.{is_of_program}
+use Rattle.mol_table_rules.specs.Program.{Program, method_of_param}
+use Rattle.mol_values_types.specs.declared.cell.Cell.{Cell}
+use Rattle.mol_values_types.specs.declared.cell.Slot.{Slot}
+use Rattle.mol_values_types.specs.declared.cell.Slot.TheVariants as slots
+use Rattle.mol_values_types.specs.declared.known.Known.{Known}
+use Rattle.mol_values_types.specs.declared.known.Known.TheVariants as knowns
 
 -- Where the fault is of a misread reference, these are the targets of the program that it has to do with: the one that is recorded, and
 -- those that are read instead in some file.

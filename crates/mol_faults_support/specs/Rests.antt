@@ -5,10 +5,10 @@ use Rattle.mol_spell_rules.specs.references.References.{Target}
 use Rattle.mol_spell_rules.specs.DefaultCreations.{default_creations}
 use Rattle.mol_spell_rules.specs.FaultList.{Fault}
 use Rattle.mol_spell_rules.specs.Support.{Calls, Concerns, HeaderCell, IsConstructorOf, LifeCell, Supports}
-use Rattle.mol_table.specs.Program.{Program, value_at, cell}
-use Rattle.mol_values.specs.declared.cell.Cell.{Cell}
-use Rattle.mol_values.specs.declared.cell.Slot.TheVariants as slots
-use Rattle.mol_values.specs.declared.value.Value.{Value}
+use Rattle.mol_table_rules.specs.Program.{Program, value_at, cell}
+use Rattle.mol_values_types.specs.declared.cell.Cell.{Cell}
+use Rattle.mol_values_types.specs.declared.cell.Slot.TheVariants as slots
+use Rattle.mol_values_types.specs.declared.value.Value.{Value}
 
 -- These are all of them, each any number of times.
 abbrev pub RestsOn : Program → Fault → List Cell → Type 0

@@ -3,8 +3,8 @@ use Rattle.std.specs.Prelude.{◌≡◌, ◌↔◌, ◌⊎◌, suc, List, [], �
 use Rattle.std.specs.FinMap.{len}
 use Rattle.mol_base.specs.declared.ident.Id.{Id}
 use Rattle.mol_spell_rules.specs.Support.{IsAboveDeclaration, IsBetween, IsBetweenOwners}
-use Rattle.mol_table.specs.Ancestors.{living_parent, unmet, walk}
-use Rattle.mol_table.specs.Program.{Program, owner_at, parent_at}
+use Rattle.mol_table_rules.specs.Ancestors.{living_parent, unmet, walk}
+use Rattle.mol_table_rules.specs.Program.{Program, owner_at, parent_at}
 
 -- what going up from a class meets that was not met before, up to what was
 abbrev pub fresh_way : Program → List Id → Id → List Id

@@ -5,7 +5,7 @@ ghost use Rattle.mol_faults_support.specs.Cells.{address_of, declaration_address
 use crate::slots::add_slots;
 use mol_base::{Id, OutOfMemory};
 use mol_table::Table;
-use mol_values::{Cell, Known, Slot};
+use mol_values_types::{Cell, Known, Slot};
 
 /// Adds the cells that say where a class, a field or a declaration is found: of a declaration also those of its method.
 pub(crate) fn add_address(cells: &mut Vec<Cell>, table: &Table, id: &Id) -> Result<(), OutOfMemory>

@@ -10,7 +10,7 @@ use crate::declarations::{add_some, constructors_of, set_of};
 use mol_base::{Id, OutOfMemory};
 use mol_faults_mentions::{Mention, Role, default_creations, mentions_of};
 use mol_table::Table;
-use mol_values::Value;
+use mol_values_types::Value;
 use std::alloc::Global;
 
 /// The methods and constructors that a value calls.

@@ -9,7 +9,7 @@ ghost use Rattle.mol_faults_support.specs.Rests.{RestsOn};
 use crate::slots::{add_cell, add_slots};
 use mol_base::{Id, OutOfMemory};
 use mol_table::Table;
-use mol_values::{Cell, Known, Slot};
+use mol_values_types::{Cell, Known, Slot};
 use std::alloc::Global;
 
 /// A name that is declared twice rests on the body, its declaration, and the parameters.

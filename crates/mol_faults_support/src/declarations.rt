@@ -7,7 +7,7 @@ use indexmap::IndexSet;
 use mol_base::{Id, OutOfMemory};
 use mol_scope_classes::owner_of;
 use mol_table::Table;
-use mol_values::{Known, MethodKind};
+use mol_values_types::{Known, MethodKind};
 use std::alloc::Global;
 
 /// The known declarations of these methods. The time is that of a look-up for each known identity.

@@ -6,7 +6,7 @@ ghost use Rattle.mol_faults_support.specs.Met.{header_of};
 use crate::slots::add_slots;
 use mol_base::{Id, OutOfMemory};
 use mol_table::Table;
-use mol_values::{Cell, Known, Slot};
+use mol_values_types::{Cell, Known, Slot};
 
 /// Adds the cells of these identities but for modifiers, comments, bodies and values.
 pub(crate) fn add_headers(

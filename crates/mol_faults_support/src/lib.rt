@@ -7,7 +7,6 @@ mod clashes;
 mod declarations;
 mod headers;
 mod life;
-mod met;
 mod methods;
 mod misread;
 mod missing;
@@ -16,5 +15,4 @@ mod slots;
 mod supports;
 mod ways;
 
-pub use met::Met;
 pub use supports::support;

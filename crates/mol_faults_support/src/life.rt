@@ -4,14 +4,14 @@ ghost use Rattle.std.specs.FinMap as map;
 ghost use Rattle.std.specs.List.{flat_map};
 ghost use Rattle.mol_faults_support.specs.Cells.{own_life};
 ghost use Rattle.mol_faults_support.specs.Rests.{AreLives};
-ghost use Rattle.mol_values.specs.Slots.{has_slot};
-ghost use Rattle.mol_values.specs.declared.cell.Slot.TheVariants as slots;
+ghost use Rattle.mol_values_types.specs.Slots.{has_slot};
+ghost use Rattle.mol_values_types.specs.declared.cell.Slot.TheVariants as slots;
 
 use crate::declarations::{declarations_of, set_of};
 use crate::slots::{add_cell, add_lives};
 use mol_base::{Id, OutOfMemory};
 use mol_table::Table;
-use mol_values::{Cell, Known, Slot};
+use mol_values_types::{Cell, Known, Slot};
 use std::alloc::Global;
 
 /// The cells that say whether these live; those of a method are those of its declarations.

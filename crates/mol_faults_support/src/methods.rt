@@ -9,7 +9,7 @@ use crate::slots::{add_each, add_slots, add_supers};
 use crate::ways::classes_above;
 use mol_base::{Id, OutOfMemory};
 use mol_table::Table;
-use mol_values::{Cell, Slot};
+use mol_values_types::{Cell, Slot};
 use std::alloc::Global;
 
 /// A method that stands apart rests on where its declarations stand, and on the superclasses of all above them.

@@ -3,17 +3,18 @@ ghost use Rattle.std.specs.Prelude.{◌≡◌, ℕ, IfOk, OnOk, map};
 ghost use Rattle.std.specs.List.{filter_map};
 ghost use Rattle.mol_spell_rules.specs.FaultList.{misread, FaultTarget};
 ghost use Rattle.mol_faults_support.specs.Declarations.{DeclaresAny};
-ghost use Rattle.mol_faults_support.specs.Met.{entity_of, kept_met, method_for, HasMet};
+ghost use Rattle.mol_faults_rules.specs.Met.{kept_met};
+ghost use Rattle.mol_faults_support.specs.Met.{entity_of, method_for, HasMet};
 ghost use Rattle.mol_faults_support.specs.Rests.{Adds, IsOfTargets, RestsOn};
 
 use crate::declarations::{add_some, declarations_of, set_of};
 use crate::headers::add_headers;
 use crate::life::lives;
-use crate::met::Met;
 use crate::slots::add_cell;
 use mol_base::{Id, OutOfMemory};
+use mol_faults_rules::Met;
 use mol_table::Table;
-use mol_values::Cell;
+use mol_values_types::Cell;
 use std::alloc::Global;
 
 /// A reference that is misread rests on its cell, on what says whether the entity of the cell lives, and on what says where that is and

@@ -4,14 +4,14 @@ ghost use Rattle.std.specs.FinMap as map;
 ghost use Rattle.mol_spell_rules.specs.FaultList.{missing};
 ghost use Rattle.mol_faults_support.specs.Cells.{declared_method, params_beside};
 ghost use Rattle.mol_faults_support.specs.Rests.{Adds, IsOfCell, IsOfValue, RestsOn};
-ghost use Rattle.mol_table.specs.Program.{method_of_param};
+ghost use Rattle.mol_table_rules.specs.Program.{method_of_param};
 
 use crate::calls::{called_methods, created_constructors};
 use crate::life::lives;
 use crate::slots::{add_cell, add_lives, add_params};
 use mol_base::{Id, OutOfMemory};
 use mol_table::Table;
-use mol_values::{Cell, Known, Slot, Value};
+use mol_values_types::{Cell, Known, Slot, Value};
 use std::alloc::Global;
 
 /// A cell that refers to what is gone rests on itself, on what says whether its entity and the target live, and on what decides to what

@@ -3,14 +3,14 @@ ghost use Rattle.std.specs.Prelude.{◌≡◌, ◌++◌, IfOk, OnOk};
 ghost use Rattle.mol_spell_rules.specs.FaultList.{false_override, package_is_class, same_address};
 ghost use Rattle.mol_faults_support.specs.Cells.{address_of};
 ghost use Rattle.mol_faults_support.specs.Rests.{RestsOn};
-ghost use Rattle.mol_table.specs.Program.{Program};
+ghost use Rattle.mol_table_rules.specs.Program.{Program};
 
 use crate::addresses::add_address;
 use crate::slots::{add_each, add_supers};
 use crate::ways::classes_between;
 use mol_base::{Id, OutOfMemory};
 use mol_table::Table;
-use mol_values::{Cell, Slot};
+use mol_values_types::{Cell, Slot};
 use std::alloc::Global;
 
 /// Two of one address rest on what says where they are found.

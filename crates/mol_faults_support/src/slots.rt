@@ -1,12 +1,12 @@
 //! Cells of identities.
 ghost use Rattle.std.specs.Prelude.{◌≡◌, ◌++◌, ◌∷◌, [], OnOk, map};
 ghost use Rattle.std.specs.List.{flat_map};
-ghost use Rattle.mol_table.specs.Program.{cell};
+ghost use Rattle.mol_table_rules.specs.Program.{cell};
 ghost use Rattle.mol_faults_support.specs.Cells.{cells_of};
-ghost use Rattle.mol_values.specs.declared.cell.Slot.TheVariants as slots;
+ghost use Rattle.mol_values_types.specs.declared.cell.Slot.TheVariants as slots;
 
 use mol_base::{Id, OutOfMemory};
-use mol_values::{Cell, Slot};
+use mol_values_types::{Cell, Slot};
 
 /// Adds one cell.
 pub(crate) fn add_cell(cells: &mut Vec<Cell>, id: &Id, slot: Slot) -> Result<(), OutOfMemory>

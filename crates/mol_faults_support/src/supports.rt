@@ -2,19 +2,19 @@
 ghost use Rattle.std.specs.Prelude.{◌≡◌, IfOk, map};
 ghost use Rattle.mol_faults_rules.specs.Kept.{kept_fault};
 ghost use Rattle.mol_spell_rules.specs.Support.{IsSupport};
-ghost use Rattle.mol_faults_support.specs.Met.{kept_met, HasMet};
+ghost use Rattle.mol_faults_rules.specs.Met.{kept_met};
+ghost use Rattle.mol_faults_support.specs.Met.{HasMet};
 ghost use Rattle.mol_faults_support.specs.Rests.{RestsOn};
 
 use crate::clashes::local_clash;
-use crate::met::Met;
 use crate::methods::{apart, outside_name};
 use crate::misread::misread;
 use crate::missing::missing;
 use crate::pairs::{false_override, package_is_class, same_address};
 use mol_base::{List, OutOfMemory, in_order};
-use mol_faults_rules::Fault;
+use mol_faults_rules::{Fault, Met};
 use mol_table::Table;
-use mol_values::Cell;
+use mol_values_types::Cell;
 use std::alloc::Global;
 
 /// The cells that a fault of a program rests on, ascending: what its condition looks at first. The program is as it is held: values are

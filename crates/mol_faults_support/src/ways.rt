@@ -3,14 +3,14 @@ ghost use Rattle.std.specs.Prelude.{◌≡◌, ◌⊎◌, ◌↔◌, ◌++◌, C
 ghost use Rattle.mol_base.specs.declared.ident.Id.{Id as Identity};
 ghost use Rattle.mol_spell_rules.specs.Support.{IsAboveDeclaration, IsBetween};
 ghost use Rattle.mol_faults_support.specs.Ways.{fresh_way, AreAbove, AreBetweenOwner, AreBetweenOwners, IsClosed, IsUpTo};
-ghost use Rattle.mol_table.specs.Ancestors.{living_parent, unmet, walk, way};
-ghost use Rattle.mol_table.specs.Program.{class_of_type, parent_at};
+ghost use Rattle.mol_table_rules.specs.Ancestors.{living_parent, unmet, walk, way};
+ghost use Rattle.mol_table_rules.specs.Program.{class_of_type, parent_at};
 
 use indexmap::IndexSet;
 use mol_base::{Id, OutOfMemory};
 use mol_scope_classes::{is_live, owner_of};
 use mol_table::Table;
-use mol_values::{Cell, IType, Slot, Value};
+use mol_values_types::{Cell, IType, Slot, Value};
 use std::alloc::Global;
 
 /// The classes in which these declarations stand, and all above them. Each class is gone through once.

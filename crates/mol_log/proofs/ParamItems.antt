@@ -7,7 +7,7 @@ use Rattle.serde_json.specs.declared.value.Value.{Value}
 use Rattle.mol_log.specs.entries.RowsOf.{param_row, param_rows}
 use Rattle.mol_log_rows.specs.lines.Objects.{items}
 use Rattle.mol_log_rows.specs.rows.RowData.{param_data}
-use Rattle.mol_values.specs.declared.param.Param.{Param}
+use Rattle.mol_values_types.specs.declared.param.Param.{Param}
 
 -- the objects of parameters as items
 abbrev pub param_items : List Param → Items

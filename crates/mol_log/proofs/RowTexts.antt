@@ -13,9 +13,9 @@ use Rattle.mol_log_rows.specs.declared.rows.row.ParamRow.{ParamRow}
 use Rattle.mol_log_rows.specs.declared.rows.row.Row.{Row}
 use Rattle.mol_log_rows.specs.declared.rows.row.Row.TheVariants.{AddClass, AddField, AddMethod, AddOverride, AddConstructor, Delete, SetBody}
 use Rattle.mol_log_rows.specs.declared.rows.row.Row.TheVariants.{SetValue, RenameClass, RenameMethod, MoveClass, MoveMethod, ChangeSignature}
-use Rattle.mol_values.specs.declared.kind.MethodKind.{MethodKind}
-use Rattle.mol_values.specs.declared.kind.MethodKind.TheVariants.{Instance, Static, Constructor}
-use Rattle.mol_values.specs.declared.words.Notes.{Notes}
+use Rattle.mol_values_types.specs.declared.kind.MethodKind.{MethodKind}
+use Rattle.mol_values_types.specs.declared.kind.MethodKind.TheVariants.{Instance, Static, Constructor}
+use Rattle.mol_values_types.specs.declared.words.Notes.{Notes}
 use Rattle.mol_log.proofs.DataTexts.{IsLineData, AreLines, HaveLines, string-line, format-line, texts-line, maybe-line, array-line}
 use Rattle.mol_log.proofs.DataTexts.{object-line}
 

@@ -1,6 +1,7 @@
-//! Logs: the recorded operations of a branch or of a merge, and their form as bytes, both ways.
+//! Logs: the recorded operations of a branch or of a merge, each entry with its stamp, and their form as bytes, both ways.
 #![tactic(auto)]
 
+mod copies;
 mod entries;
 mod log;
 mod object;

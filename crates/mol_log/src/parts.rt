@@ -15,7 +15,7 @@ use mol_base::OutOfMemory;
 use mol_log_body::write_body;
 use mol_log_expr::write_expr;
 use mol_log_words::write_type;
-use mol_values::{IBody, IExpr, IType, MethodKind, Notes, Param};
+use mol_values_types::{IBody, IExpr, IType, MethodKind, Notes, Param};
 use serde_json::Value;
 use std::alloc::Global;
 

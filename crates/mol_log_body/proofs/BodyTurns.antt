@@ -1,8 +1,8 @@
 -- The reader's steps for statements, in the shape of the code.
 use Rattle.std.proofs.Common.{◌≡◌, ℕ, zero, suc, ◌+◌, ◌-◌, ◌<◌, Bool, true, false, List, [], ◌∷◌, ◌++◌, Option, Some, None, Ok, Err, refl, ap}
 use Rattle.std.proofs.Common.{arith, if◌then◌else◌, length}
-use Rattle.mol_values.specs.declared.iblock.IDeclarator.{IDeclarator}
-use Rattle.mol_values.specs.declared.iblock.IStmt.{IStmt}
+use Rattle.mol_values_types.specs.declared.iblock.IDeclarator.{IDeclarator}
+use Rattle.mol_values_types.specs.declared.iblock.IStmt.{IStmt}
 use Rattle.mol_log_words.specs.Words.{Word, has_form}
 use Rattle.mol_log_expr.specs.Scope.{Scope}
 use Rattle.mol_log_words.specs.Reader.{Outcome, Parser, and_then, ◌>>=◌, pure, taken, take}

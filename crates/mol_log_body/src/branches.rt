@@ -7,7 +7,7 @@ ghost use Rattle.mol_log_body.specs.BodyReader as reader;
 ghost use Rattle.mol_log_body.specs.ReadsIn.{result_map};
 
 use mol_log_words::Fault;
-use mol_values::{IBlock, IElse, IExpr, IIf};
+use mol_values_types::{IBlock, IElse, IExpr, IIf};
 
 /// The branch of an `if`, and what follows it.
 #[derive(Drop)]

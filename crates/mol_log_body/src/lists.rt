@@ -9,7 +9,7 @@ use crate::stmt_head::NodeHead;
 use crate::take::{is_at_note, take_node_head, take_note};
 use mol_base::{List, Text};
 use mol_log_words::{Bounds, Cursor, Fault, TextForm};
-use mol_values::{IBlock, IStmt, IStmtNode};
+use mol_values_types::{IBlock, IStmt, IStmtNode};
 use std::alloc::Global;
 
 /// A count and so many comments.

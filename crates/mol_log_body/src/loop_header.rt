@@ -10,7 +10,7 @@ use crate::variables::{maybe, variables};
 use mol_base::{Boxed, List, Text};
 use mol_log_expr::{ExprRole, Scope, expr, exprs};
 use mol_log_words::{Bounds, Cursor, Fault, MAX_DIMENSIONS, TextForm, TypeRole, type_name};
-use mol_values::{IBlock, IExpr, IForStart, IStmtNode, IType};
+use mol_values_types::{IBlock, IExpr, IForStart, IStmtNode, IType};
 use std::alloc::Global;
 
 /// A loop without its block.

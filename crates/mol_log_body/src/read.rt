@@ -9,7 +9,7 @@ use crate::stmt::block;
 use mol_base::Text;
 use mol_log_expr::{MAX_HEIGHT, Scope};
 use mol_log_words::{BadWord, Cursor, Fault, whole};
-use mol_values::IBody;
+use mol_values_types::IBody;
 use std::alloc::Global;
 
 /// The body that the words spell: at most 500 high, each local by its number among those in scope (JLS 6.3, 14).

@@ -6,7 +6,7 @@ use crate::stmt_head::{Choice, SimpleHead, SuperHead};
 use crate::variables::maybe;
 use mol_log_expr::{ExprRole, Scope, arguments, expr, exprs};
 use mol_log_words::{Bounds, Cursor, Fault};
-use mol_values::IStmtNode;
+use mol_values_types::IStmtNode;
 use std::alloc::Global;
 
 /// A statement that holds no other, after its first word.

@@ -12,7 +12,7 @@ use crate::variables::variables;
 use mol_base::{Boxed, List};
 use mol_log_expr::{ExprRole, Scope, expr};
 use mol_log_words::{Bounds, Cursor, Fault};
-use mol_values::{IBlock, IElse, IIf, IStmt, IStmtNode};
+use mol_values_types::{IBlock, IElse, IIf, IStmt, IStmtNode};
 use std::alloc::Global;
 
 /// A statement no higher than `depth`, and the comments before it. `first` says whether it is the first one

@@ -9,7 +9,7 @@ use crate::take::take_choice;
 use mol_base::List;
 use mol_log_expr::{ExprRole, Scope, expr};
 use mol_log_words::{Bounds, Cursor, Fault, MAX_DIMENSIONS, TextForm, TypeRole, type_name};
-use mol_values::{IDeclarator, IExpr, ILet};
+use mol_values_types::{IDeclarator, IExpr, ILet};
 use std::alloc::Global;
 
 /// No expression, or one that is no higher than `depth`.

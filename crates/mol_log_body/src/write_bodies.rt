@@ -12,7 +12,7 @@ use crate::stmt_head::{Choice, choice_word};
 use mol_base::{Id, List, OutOfMemory, Text};
 use mol_log_expr::{add_arguments, add_expr, add_exprs};
 use mol_log_words::Written;
-use mol_values::{
+use mol_values_types::{
     Argument, IBlock, IBody, IDeclarator, IElse, IExpr, IForStart, IIf, ILet, IStmt, IStmtNode,
     IType,
 };

@@ -2,9 +2,9 @@
 use Rattle.std.specs.Prelude.{ℕ, zero, suc, nat_lt, List, [], length}
 use Rattle.mol_base.specs.Spelled.{id_of}
 use Rattle.mol_base.specs.declared.ident.Id.{Id}
-use Rattle.mol_values.specs.declared.iexpr.Argument.{Argument}
-use Rattle.mol_values.specs.declared.iexpr.IExpr.{IExpr}
-use Rattle.mol_values.specs.declared.iexpr.IExpr.TheVariants as exprs
+use Rattle.mol_values_types.specs.declared.iexpr.Argument.{Argument}
+use Rattle.mol_values_types.specs.declared.iexpr.IExpr.{IExpr}
+use Rattle.mol_values_types.specs.declared.iexpr.IExpr.TheVariants as exprs
 use Rattle.mol_log_words.specs.Words.{has_form, count_of, pairs_of}
 use Rattle.mol_log_words.specs.Types.{most_dimensions}
 use Rattle.mol_log_expr.specs.Scope.{local_of, any}

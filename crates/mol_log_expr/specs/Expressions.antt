@@ -3,10 +3,10 @@ use Rattle.std.specs.Prelude.{◌≡◌, ℕ, suc, true, if◌then◌else◌, Li
 use Rattle.mol_base.specs.Operators.{is_step}
 use Rattle.mol_base.specs.Spelled.{id_of}
 use Rattle.mol_base.specs.declared.ident.Id.{Id}
-use Rattle.mol_values.specs.declared.iexpr.Argument.{Argument}
-use Rattle.mol_values.specs.declared.iexpr.IExpr.{IExpr}
-use Rattle.mol_values.specs.declared.iexpr.IExpr.TheVariants as exprs
-use Rattle.mol_values.specs.declared.itype.IType.{IType}
+use Rattle.mol_values_types.specs.declared.iexpr.Argument.{Argument}
+use Rattle.mol_values_types.specs.declared.iexpr.IExpr.{IExpr}
+use Rattle.mol_values_types.specs.declared.iexpr.IExpr.TheVariants as exprs
+use Rattle.mol_values_types.specs.declared.itype.IType.{IType}
 use Rattle.mol_log_words.specs.Words.{Word, has_form, counts, pairs_fit, IsCount}
 use Rattle.mol_log_words.specs.Types.{IsType, most_dimensions}
 use Rattle.mol_log_expr.specs.Scope.{has}

@@ -11,7 +11,7 @@ use crate::read_exprs::expr;
 use crate::scope::Scope;
 use mol_base::Text;
 use mol_log_words::{BadWord, Cursor, whole};
-use mol_values::IExpr;
+use mol_values_types::IExpr;
 use std::alloc::Global;
 
 /// The greatest height of a body, and of the first value of a field.

@@ -10,7 +10,7 @@ use crate::expr_role::ExprRole;
 use crate::scope::Scope;
 use mol_base::{Boxed, List, is_step};
 use mol_log_words::{Bounds, Cursor, Fault, MAX_DIMENSIONS, TextForm, TypeRole, type_name};
-use mol_values::{Argument, IExpr};
+use mol_values_types::{Argument, IExpr};
 use std::alloc::Global;
 
 /// Takes an expression that may stand at a place of this role, no higher than `depth` (JLS 15), whose locals are

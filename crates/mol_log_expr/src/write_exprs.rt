@@ -9,7 +9,7 @@ ghost use Rattle.mol_log_expr.specs.declared.expr_role.ExprRole.{ExprRole as Rol
 
 use mol_base::{Id, List, OutOfMemory, Text};
 use mol_log_words::Written;
-use mol_values::{Argument, IExpr, IType};
+use mol_values_types::{Argument, IExpr, IType};
 use std::alloc::Global;
 
 /// The words of an expression, as a log has them. They are in the form wherever any words of the expression

@@ -1,6 +1,6 @@
 -- What is in the form of a type is read.
 use Rattle.std.proofs.Common.{◌≡◌, ℕ, zero, suc, List, ◌++◌, Ok, refl}
-use Rattle.mol_values.specs.declared.itype.IType.{IType}
+use Rattle.mol_values_types.specs.declared.itype.IType.{IType}
 use Rattle.mol_log_words.specs.Words.{Word}
 use Rattle.mol_log_words.specs.Types.{most_dimensions}
 use Rattle.mol_log_words.specs.Reader.{take}

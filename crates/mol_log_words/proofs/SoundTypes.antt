@@ -1,8 +1,8 @@
 -- What is read of a type is in the form, and what is refused could have gone on up to the bad word.
 use Rattle.std.proofs.Common.{◌≡◌, ℕ, zero, suc, Bool, true, false, [], ◌∷◌, Some, refl, codes, ◌&&◌}
 use Rattle.std.proofs.lemmas.List.{append-nil}
-use Rattle.mol_values.specs.declared.itype.IType.{IType}
-use Rattle.mol_values.specs.declared.itype.IType.TheVariants as types
+use Rattle.mol_values_types.specs.declared.itype.IType.{IType}
+use Rattle.mol_values_types.specs.declared.itype.IType.TheVariants as types
 use Rattle.mol_log_words.specs.Words.{Word, has_form}
 use Rattle.mol_log_words.specs.Types.{most_dimensions}
 use Rattle.mol_log_words.specs.Reader.{Parser, refuse}

@@ -12,8 +12,8 @@ use Rattle.mol_base.specs.Lexical.Tokens.{IsOneToken, number}
 use Rattle.mol_base.specs.declared.token_kind.TokenKind.TheVariants as kind
 use Rattle.mol_base.proofs.Escaping.{HasNoEscape-from_scan}
 use Rattle.mol_base.proofs.OneToken.{token_kind-IsOneToken}
-use Rattle.mol_values.proofs.AsciiNames.{ascii-name}
-use Rattle.mol_values.specs.TokenForms.{is_literal_kind, is_comment_kind, is_literal, is_comment, is_name, is_dotted}
+use Rattle.mol_values_types.proofs.AsciiNames.{ascii-name}
+use Rattle.mol_values_types.specs.TokenForms.{is_literal_kind, is_comment_kind, is_literal, is_comment, is_name, is_dotted}
 
 zero_token : IsOneToken kind.Literal (codes "0")
 zero_token = record {

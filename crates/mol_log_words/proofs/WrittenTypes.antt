@@ -2,10 +2,10 @@
 use Rattle.std.proofs.Common.{◌≡◌, ℕ, List, [], ◌∷◌, codes, ap, subst, sym, ◌∙◌}
 use Rattle.mol_base.specs.Identity.{spelled_id}
 use Rattle.mol_base.specs.declared.ident.Id.{Id}
-use Rattle.mol_values.specs.declared.itype.IType.{IType}
-use Rattle.mol_values.specs.declared.itype.IType.TheFolds.{fold-roll-IType}
-use Rattle.mol_values.specs.declared.itype.IType.TheOpen.{IType-F}
-use Rattle.mol_values.specs.declared.itype.IType.TheVariants as types
+use Rattle.mol_values_types.specs.declared.itype.IType.{IType}
+use Rattle.mol_values_types.specs.declared.itype.IType.TheFolds.{fold-roll-IType}
+use Rattle.mol_values_types.specs.declared.itype.IType.TheOpen.{IType-F}
+use Rattle.mol_values_types.specs.declared.itype.IType.TheVariants as types
 use Rattle.mol_log_words.specs.Words.{Word}
 use Rattle.mol_log_words.specs.Types.{IsType, boolean, byte, short, char, int, long, void, class, imported, written, array}
 use Rattle.mol_log_words.specs.TypeWords.{type_words, type_step}

@@ -1,8 +1,8 @@
 -- The word form of types as a function.
 use Rattle.std.specs.Prelude.{ℕ, zero, suc, true, false}
 use Rattle.mol_base.specs.Spelled.{id_of}
-use Rattle.mol_values.specs.declared.itype.IType.{IType}
-use Rattle.mol_values.specs.declared.itype.IType.TheVariants as types
+use Rattle.mol_values_types.specs.declared.itype.IType.{IType}
+use Rattle.mol_values_types.specs.declared.itype.IType.TheVariants as types
 use Rattle.mol_log_words.specs.Words.{has_form}
 use Rattle.mol_log_words.specs.Reader.{Parser, ◌>>=◌, pure, refuse, take, passing}
 use Rattle.mol_log_words.specs.TypeHeads.{type_head_of}

@@ -1,8 +1,8 @@
 -- The words of a type.
 use Rattle.std.specs.Prelude.{List, [], ◌∷◌, codes}
 use Rattle.mol_base.specs.Identity.{spelled_id}
-use Rattle.mol_values.specs.declared.itype.IType.{IType, fold-IType}
-use Rattle.mol_values.specs.declared.itype.IType.TheOpen.{IType-F}
+use Rattle.mol_values_types.specs.declared.itype.IType.{IType, fold-IType}
+use Rattle.mol_values_types.specs.declared.itype.IType.TheOpen.{IType-F}
 use Rattle.mol_log_words.specs.Words.{Word}
 
 abbrev pub type_step : IType-F (List Word) → List Word

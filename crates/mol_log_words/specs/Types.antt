@@ -3,8 +3,8 @@ use Rattle.std.specs.Prelude.{◌≡◌, ℕ, suc, true, List, [], ◌∷◌, co
 use Rattle.mol_base.specs.Limits.{max_items}
 use Rattle.mol_base.specs.Spelled.{id_of}
 use Rattle.mol_base.specs.declared.ident.Id.{Id}
-use Rattle.mol_values.specs.declared.itype.IType.{IType}
-use Rattle.mol_values.specs.declared.itype.IType.TheVariants as types
+use Rattle.mol_values_types.specs.declared.itype.IType.{IType}
+use Rattle.mol_values_types.specs.declared.itype.IType.TheVariants as types
 use Rattle.mol_log_words.specs.Words.{Word, has_form}
 use Rattle.mol_log_words.specs.TypeHeads.{allows_type}
 use Rattle.mol_log_words.specs.declared.type_role.TypeRole.{TypeRole}

@@ -5,7 +5,7 @@ use Rattle.std.specs.Char.{is_ascii_digit}
 use Rattle.std.specs.List.{list_all}
 use Rattle.mol_base.specs.Limits.{max_items}
 use Rattle.mol_base.specs.Operators.{is_prefix, is_step, is_assignment, binary_level}
-use Rattle.mol_values.specs.TokenForms.{is_name, is_literal, is_comment, is_dotted, is_empty}
+use Rattle.mol_values_types.specs.TokenForms.{is_name, is_literal, is_comment, is_dotted, is_empty}
 use Rattle.mol_log_words.specs.declared.bounds.Bounds.{Bounds}
 use Rattle.mol_log_words.specs.declared.bounds.Bounds.TheVariants as bound
 use Rattle.mol_log_words.specs.declared.text_form.TextForm.{TextForm}

@@ -8,7 +8,7 @@ use crate::fault::{BadWord, Fault};
 use crate::type_role::TypeRole;
 use crate::types::{MAX_DIMENSIONS, type_name};
 use mol_base::Text;
-use mol_values::IType;
+use mol_values_types::IType;
 use std::alloc::Global;
 
 /// The type that the words spell, which may stand at a place of this role and has at most 255 dimensions

@@ -3,7 +3,7 @@ ghost use Rattle.std.specs.Prelude.{◌≡◌};
 ghost use Rattle.mol_log_words.specs.Words as spec;
 
 use mol_base::{binary_level, is_assignment, is_prefix, is_step};
-use mol_values::{is_comment, is_dotted, is_literal, is_name};
+use mol_values_types::{is_comment, is_dotted, is_literal, is_name};
 
 /// What a word may be that a tree keeps as it is.
 #[derive(Clone, Copy, Debug, PartialEq, Eq)]

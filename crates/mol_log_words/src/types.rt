@@ -8,7 +8,7 @@ use crate::text_form::TextForm;
 use crate::type_head::TypeHead;
 use crate::type_role::TypeRole;
 use mol_base::Boxed;
-use mol_values::IType;
+use mol_values_types::IType;
 use std::alloc::Global;
 
 /// The greatest number of dimensions of an array (JVMS 4.11).

@@ -6,7 +6,7 @@ ghost use Rattle.mol_log_words.specs.declared.type_role.TypeRole.{TypeRole as Ro
 
 use crate::written::Written;
 use mol_base::{List, OutOfMemory, Text};
-use mol_values::IType;
+use mol_values_types::IType;
 use std::alloc::Global;
 
 /// The words of a type, as a log has them. They spell the type wherever any words do.

@@ -4,16 +4,16 @@ use Rattle.std.proofs.Common.{refl, sym, ap, ◌∙◌}
 use Rattle.std.specs.FinMap.{get}
 use Rattle.std.specs.Option.{option_or}
 use Rattle.mol_base.specs.declared.ident.Id.{Id}
-use Rattle.mol_table.specs.Mentions.{type_mentions, maybe_mentions, body_mentions, parent_mentions}
-use Rattle.mol_table.specs.Program.{Knowns, same_id}
-use Rattle.mol_table.specs.TypeForms.{is_void}
-use Rattle.mol_values.proofs.Ties.{id_ties}
-use Rattle.mol_values.specs.Order.{id_eq}
-use Rattle.mol_values.specs.declared.iblock.IBody.{IBody}
-use Rattle.mol_values.specs.declared.kind.MethodKind.{MethodKind}
-use Rattle.mol_values.specs.declared.kind.MethodKind.TheVariants.{Constructor}
-use Rattle.mol_values.specs.declared.known.Known.TheVariants as knowns
-use Rattle.mol_values.specs.declared.param.Param.{Param}
+use Rattle.mol_table_rules.specs.Mentions.{type_mentions, maybe_mentions, body_mentions, parent_mentions}
+use Rattle.mol_table_rules.specs.Program.{Knowns, same_id}
+use Rattle.mol_table_rules.specs.TypeForms.{is_void}
+use Rattle.mol_values_types.proofs.Ties.{id_ties}
+use Rattle.mol_values_types.specs.Order.{id_eq}
+use Rattle.mol_values_types.specs.declared.iblock.IBody.{IBody}
+use Rattle.mol_values_types.specs.declared.kind.MethodKind.{MethodKind}
+use Rattle.mol_values_types.specs.declared.kind.MethodKind.TheVariants.{Constructor}
+use Rattle.mol_values_types.specs.declared.known.Known.TheVariants as knowns
+use Rattle.mol_values_types.specs.declared.param.Param.{Param}
 use Rattle.mol_op.specs.Changes.{Name, know_all}
 use Rattle.mol_op.specs.Rows.{add_class_tests, add_field_tests, add_method_tests, add_override_tests, add_constructor_tests, set_body_tests, set_value_tests, change_signature_tests, type_tests, param_tests, block_tests, known_block_tests, body_tests, value_tests, new_method_names, new_method_tests, new_method_fault}
 use Rattle.mol_op.specs.Seen.{named_params}

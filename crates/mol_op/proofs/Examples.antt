@@ -4,14 +4,14 @@
 use Rattle.std.specs.Prelude.{◌≡◌, ℕ, true, false, List, [], ◌∷◌, codes, None, Some}
 use Rattle.std.proofs.Common.{refl}
 use Rattle.mol_base.specs.declared.ident.Id.{Id}
-use Rattle.mol_table.specs.Mentions.{a_class, a_called_method, a_static_method, a_constructor, a_param}
-use Rattle.mol_table.specs.Program.{cell}
-use Rattle.mol_values.specs.declared.cell.Slot.TheVariants as slots
-use Rattle.mol_values.specs.declared.kind.MethodKind.TheVariants.{Instance, Static, Constructor}
-use Rattle.mol_values.specs.declared.known.Known.TheVariants as knowns
-use Rattle.mol_values.specs.declared.value.Value.TheVariants as values
+use Rattle.mol_table_rules.specs.Mentions.{a_class, a_called_method, a_static_method, a_constructor, a_param}
+use Rattle.mol_table_rules.specs.Program.{cell}
+use Rattle.mol_values_types.specs.declared.cell.Slot.TheVariants as slots
+use Rattle.mol_values_types.specs.declared.kind.MethodKind.TheVariants.{Instance, Static, Constructor}
+use Rattle.mol_values_types.specs.declared.known.Known.TheVariants as knowns
+use Rattle.mol_values_types.specs.declared.value.Value.TheVariants as values
 use Rattle.mol_op.specs.Changes.{first_name}
-use Rattle.mol_op.specs.Fixed.{is_of_object}
+use Rattle.jav_names.specs.Members.{is_object_method}
 use Rattle.mol_op.specs.Rows.{delete_writes, rename_method_tests, rename_method_writes, move_method_tests, move_method_writes, change_signature_writes, block_tests}
 use Rattle.mol_op.specs.Tests.{Test, needs, lists, declares, fails, need_fault, new_fault, list_fault, may_mention, is_named, tests_names}
 use Rattle.mol_op.specs.declared.change_signature.ChangeSignature.{ChangeSignature}
@@ -143,8 +143,8 @@ abstract_instance = refl
 
 -- ---- methods of Object
 
-fixed_equals : is_of_object (codes "equals") 1 ≡ true
+fixed_equals : is_object_method (codes "equals") 1 ≡ true
 fixed_equals = refl
 
-free_equals : is_of_object (codes "equals") 2 ≡ false
+free_equals : is_object_method (codes "equals") 2 ≡ false
 free_equals = refl

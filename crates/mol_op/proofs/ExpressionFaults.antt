@@ -3,15 +3,15 @@ use Rattle.std.specs.Prelude.{◌≡◌, ℕ, List, [], ◌∷◌, ◌++◌, map
 use Rattle.std.proofs.Common.{refl, sym, ap, ◌∙◌}
 use Rattle.std.specs.Option.{option_or}
 use Rattle.mol_base.specs.declared.ident.Id.{Id}
-use Rattle.mol_table.specs.Mentions.{Role, Mention, a_called_method, a_static_method, a_constructor, named, joined, type_mentions, expr_step, argument_step, expr_mentions, exprs_mentions, arguments_mentions}
-use Rattle.mol_table.specs.Program.{Knowns}
-use Rattle.mol_values.specs.declared.iexpr.Argument.{Argument, fold-Argument}
-use Rattle.mol_values.specs.declared.iexpr.IExpr.{IExpr}
-use Rattle.mol_values.specs.declared.iexpr.IExpr.TheFolds.{fold-roll-IExpr, fold-roll-Argument, map-IExpr}
-use Rattle.mol_values.specs.declared.iexpr.IExpr.TheOpen.{IExpr-F}
-use Rattle.mol_values.specs.declared.iexpr.IExpr.TheVariants as exprs
-use Rattle.mol_values.specs.declared.iexpr.IExpr.TheViews.{roll-IExpr}
-use Rattle.mol_values.specs.declared.itype.IType.{IType}
+use Rattle.mol_table_rules.specs.Mentions.{Role, Mention, a_called_method, a_static_method, a_constructor, named, joined, type_mentions, expr_step, argument_step, expr_mentions, exprs_mentions, arguments_mentions}
+use Rattle.mol_table_rules.specs.Program.{Knowns}
+use Rattle.mol_values_types.specs.declared.iexpr.Argument.{Argument, fold-Argument}
+use Rattle.mol_values_types.specs.declared.iexpr.IExpr.{IExpr}
+use Rattle.mol_values_types.specs.declared.iexpr.IExpr.TheFolds.{fold-roll-IExpr, fold-roll-Argument, map-IExpr}
+use Rattle.mol_values_types.specs.declared.iexpr.IExpr.TheOpen.{IExpr-F}
+use Rattle.mol_values_types.specs.declared.iexpr.IExpr.TheVariants as exprs
+use Rattle.mol_values_types.specs.declared.iexpr.IExpr.TheViews.{roll-IExpr}
+use Rattle.mol_values_types.specs.declared.itype.IType.{IType}
 use Rattle.mol_op.specs.Tests.{mention_fault, mentions_fault}
 use Rattle.mol_op.specs.declared.fault.OpFault.{OpFault}
 use Rattle.mol_op.proofs.Mentioned.{fault-of-parts, fault-of-three, joined-map}

@@ -3,7 +3,7 @@ use Prim.Native.Nat.{zero}
 use Rattle.std.specs.Prelude.{◌≡◌, ◌+◌, ◌<◌, ◌≤◌, ℕ, List, [], ◌∷◌, map, length, take, None}
 use Rattle.std.proofs.Common.{suc, sym, ap, subst, ◌∙◌, arith, get_or, take_all}
 use Rattle.std.proofs.Math.Numerals.{add-one}
-use Rattle.mol_table.specs.Program.{Program}
+use Rattle.mol_table_rules.specs.Program.{Program}
 use Rattle.mol_op.specs.Changes.{written}
 use Rattle.mol_op.specs.Entries.{Change, Applies, leaves, AreApplied, IsStopped}
 use Rattle.mol_op.specs.EntryLaws.{are-applied}

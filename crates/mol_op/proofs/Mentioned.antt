@@ -4,8 +4,8 @@ use Rattle.std.proofs.Common.{refl, sym, ap, ◌∙◌, get_or}
 use Rattle.std.specs.List.{flat_map}
 use Rattle.std.specs.Option.{option_or}
 use Rattle.std.specs.Result.{IsErrAnd}
-use Rattle.mol_table.specs.Mentions.{Mention, joined}
-use Rattle.mol_table.specs.Program.{Knowns}
+use Rattle.mol_table_rules.specs.Mentions.{Mention, joined}
+use Rattle.mol_table_rules.specs.Program.{Knowns}
 use Rattle.mol_op.specs.Tests.{IsVerdict, mention_fault, mentions_fault}
 use Rattle.mol_op.specs.ChangeLaws.{or-assoc}
 use Rattle.mol_op.specs.declared.fault.OpFault.{OpFault}

@@ -2,20 +2,20 @@
 use Rattle.std.specs.Prelude.{◌≡◌, ℕ, Bool, List, ◌++◌, Option}
 use Rattle.std.proofs.Common.{refl, sym, ap, ◌∙◌}
 use Rattle.std.specs.Option.{option_or}
-use Rattle.mol_table.specs.Mentions.{Mention, type_mentions, expr_mentions, exprs_mentions, maybe_mentions, start_mentions, else_step, node_step, block_step, if_step, statement_step, block_mentions}
-use Rattle.mol_table.specs.Program.{Knowns}
-use Rattle.mol_values.specs.declared.iblock.IBlock.{IBlock}
-use Rattle.mol_values.specs.declared.iblock.IElse.{IElse}
-use Rattle.mol_values.specs.declared.iblock.IElse.TheFolds.{fold-roll-IStmtNode, fold_out-IIf, fold-roll-IStmt, map-IStmtNode}
-use Rattle.mol_values.specs.declared.iblock.IElse.TheOpen.{IStmtNode-F}
-use Rattle.mol_values.specs.declared.iblock.IElse.TheViews.{roll-IStmtNode}
-use Rattle.mol_values.specs.declared.iblock.IForStart.{IForStart}
-use Rattle.mol_values.specs.declared.iblock.IIf.{IIf, out-IIf}
-use Rattle.mol_values.specs.declared.iblock.IStmt.{IStmt}
-use Rattle.mol_values.specs.declared.iblock.IStmtNode.{IStmtNode}
-use Rattle.mol_values.specs.declared.iblock.IStmtNode.TheVariants as nodes
-use Rattle.mol_values.specs.declared.iexpr.IExpr.{IExpr}
-use Rattle.mol_values.specs.declared.itype.IType.{IType}
+use Rattle.mol_table_rules.specs.Mentions.{Mention, type_mentions, expr_mentions, exprs_mentions, maybe_mentions, start_mentions, else_step, node_step, block_step, if_step, statement_step, block_mentions}
+use Rattle.mol_table_rules.specs.Program.{Knowns}
+use Rattle.mol_values_types.specs.declared.iblock.IBlock.{IBlock}
+use Rattle.mol_values_types.specs.declared.iblock.IElse.{IElse}
+use Rattle.mol_values_types.specs.declared.iblock.IElse.TheFolds.{fold-roll-IStmtNode, fold_out-IIf, fold-roll-IStmt, map-IStmtNode}
+use Rattle.mol_values_types.specs.declared.iblock.IElse.TheOpen.{IStmtNode-F}
+use Rattle.mol_values_types.specs.declared.iblock.IElse.TheViews.{roll-IStmtNode}
+use Rattle.mol_values_types.specs.declared.iblock.IForStart.{IForStart}
+use Rattle.mol_values_types.specs.declared.iblock.IIf.{IIf, out-IIf}
+use Rattle.mol_values_types.specs.declared.iblock.IStmt.{IStmt}
+use Rattle.mol_values_types.specs.declared.iblock.IStmtNode.{IStmtNode}
+use Rattle.mol_values_types.specs.declared.iblock.IStmtNode.TheVariants as nodes
+use Rattle.mol_values_types.specs.declared.iexpr.IExpr.{IExpr}
+use Rattle.mol_values_types.specs.declared.itype.IType.{IType}
 use Rattle.mol_op.specs.ChangeLaws.{or-assoc}
 use Rattle.mol_op.specs.Statements.{node_mentions, else_mentions, if_mentions, statement_mentions}
 use Rattle.mol_op.specs.Tests.{mentions_fault}

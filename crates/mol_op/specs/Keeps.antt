@@ -3,18 +3,18 @@ use Rattle.std.specs.Prelude.{◌≡◌, Bool, true, false, IsTrue, ◌||◌, Li
 use Rattle.std.specs.FinMap.{get}
 use Rattle.std.specs.List.{AllByRecursion}
 use Rattle.mol_base.specs.declared.ident.Id.{Id}
-use Rattle.mol_table.specs.Forms.{has_form, is_formed}
-use Rattle.mol_table.specs.Mentions.{a_method}
-use Rattle.mol_table.specs.Program.{Program, Knowns, cell, value_at}
-use Rattle.mol_table.specs.Rules.{fills, refers_rightly, is_declared, has_many}
-use Rattle.mol_values.specs.Slots.{has_slot, slot_of}
-use Rattle.mol_values.specs.declared.cell.Slot.{Slot}
-use Rattle.mol_values.specs.declared.cell.Slot.TheVariants as slots
-use Rattle.mol_values.specs.declared.kind.MethodKind.{MethodKind}
-use Rattle.mol_values.specs.declared.known.Known.{Known}
-use Rattle.mol_values.specs.declared.known.Known.TheVariants as knowns
-use Rattle.mol_values.specs.declared.value.Value.{Value}
-use Rattle.mol_values.specs.declared.value.Value.TheVariants as values
+use Rattle.mol_table_rules.specs.Forms.{has_form, is_formed}
+use Rattle.mol_table_rules.specs.Mentions.{a_method}
+use Rattle.mol_table_rules.specs.Program.{Program, Knowns, cell, value_at}
+use Rattle.mol_table_rules.specs.Rules.{fills, refers_rightly, is_declared, has_many}
+use Rattle.mol_values_types.specs.Slots.{has_slot, slot_of}
+use Rattle.mol_values_types.specs.declared.cell.Slot.{Slot}
+use Rattle.mol_values_types.specs.declared.cell.Slot.TheVariants as slots
+use Rattle.mol_values_types.specs.declared.kind.MethodKind.{MethodKind}
+use Rattle.mol_values_types.specs.declared.known.Known.{Known}
+use Rattle.mol_values_types.specs.declared.known.Known.TheVariants as knowns
+use Rattle.mol_values_types.specs.declared.value.Value.{Value}
+use Rattle.mol_values_types.specs.declared.value.Value.TheVariants as values
 use Rattle.mol_op.specs.Changes.{Write, Name, know_all, last_write, written}
 
 -- a written `kind` or `method` is what the identity is known as

@@ -5,21 +5,21 @@ use Rattle.std.specs.List.{list_all}
 use Rattle.mol_base.specs.Limits.{max_items}
 use Rattle.mol_base.specs.Modifiers.{constructor_words}
 use Rattle.mol_base.specs.declared.ident.Id.{Id}
-use Rattle.mol_table.specs.Forms.{is_param, is_formed}
-use Rattle.mol_table.specs.TypeForms.{is_result}
-use Rattle.mol_values.specs.Words.{are_words}
-use Rattle.mol_values.specs.declared.iblock.IBody.{IBody}
-use Rattle.mol_values.specs.declared.iexpr.IExpr.{IExpr}
-use Rattle.mol_values.specs.declared.itype.IType.{IType}
-use Rattle.mol_values.specs.declared.kind.MethodKind.{MethodKind}
-use Rattle.mol_values.specs.declared.kind.MethodKind.TheVariants.{Instance, Constructor}
-use Rattle.mol_values.specs.declared.known.Known.{Known}
-use Rattle.mol_values.specs.declared.known.Known.TheVariants as knowns
-use Rattle.mol_values.specs.declared.param.Param.{Param}
-use Rattle.mol_values.specs.declared.value.Value.{Value}
-use Rattle.mol_values.specs.declared.value.Value.TheVariants as values
-use Rattle.mol_values.specs.declared.words.Notes.{Notes}
-use Rattle.mol_values.specs.declared.words.Words.{Words}
+use Rattle.mol_table_rules.specs.Forms.{is_param, is_formed}
+use Rattle.mol_table_rules.specs.TypeForms.{is_result}
+use Rattle.mol_values_types.specs.Words.{are_words}
+use Rattle.mol_values_types.specs.declared.iblock.IBody.{IBody}
+use Rattle.mol_values_types.specs.declared.iexpr.IExpr.{IExpr}
+use Rattle.mol_values_types.specs.declared.itype.IType.{IType}
+use Rattle.mol_values_types.specs.declared.kind.MethodKind.{MethodKind}
+use Rattle.mol_values_types.specs.declared.kind.MethodKind.TheVariants.{Instance, Constructor}
+use Rattle.mol_values_types.specs.declared.known.Known.{Known}
+use Rattle.mol_values_types.specs.declared.known.Known.TheVariants as knowns
+use Rattle.mol_values_types.specs.declared.param.Param.{Param}
+use Rattle.mol_values_types.specs.declared.value.Value.{Value}
+use Rattle.mol_values_types.specs.declared.value.Value.TheVariants as values
+use Rattle.mol_values_types.specs.declared.words.Notes.{Notes}
+use Rattle.mol_values_types.specs.declared.words.Words.{Words}
 
 -- each may be a value of what is known so
 abbrev pub are_formed : Known → List Value → Bool

@@ -7,11 +7,11 @@ use Rattle.std.specs.Cmp.Lexicographic.{same_text}
 use Rattle.std.specs.FinMap.{get}
 use Rattle.std.specs.Option.{option_or}
 use Rattle.mol_base.specs.declared.ident.Id.{Id}
-use Rattle.mol_table.specs.Mentions.{Role, Mention, a_class, a_field, a_method, a_called_method, a_static_method, a_constructor, a_param, a_listed_param}
-use Rattle.mol_table.specs.Program.{Knowns, same_id}
-use Rattle.mol_values.specs.declared.kind.MethodKind.{MethodKind}
-use Rattle.mol_values.specs.declared.known.Known.{Known}
-use Rattle.mol_values.specs.declared.known.Known.TheVariants.{Class, Method, Decl, Field, Param}
+use Rattle.mol_table_rules.specs.Mentions.{Role, Mention, a_class, a_field, a_method, a_called_method, a_static_method, a_constructor, a_param, a_listed_param}
+use Rattle.mol_table_rules.specs.Program.{Knowns, same_id}
+use Rattle.mol_values_types.specs.declared.kind.MethodKind.{MethodKind}
+use Rattle.mol_values_types.specs.declared.known.Known.{Known}
+use Rattle.mol_values_types.specs.declared.known.Known.TheVariants.{Class, Method, Decl, Field, Param}
 use Rattle.mol_op.specs.Changes.{Name, know_all, first_name}
 use Rattle.mol_op.specs.Operation.{Within, AreNamed, StayNew}
 use Rattle.mol_op.specs.Tests.{Test, needs, makes, lists, mentioned, mentioned_inside, declares, fails, same_tag, is_named, need_fault, new_fault, list_fault, may_mention, mention_fault, not_as_wanted, is_of_kind, declares_kind, test_fault, tests_fault, tests_names, condition}

@@ -2,7 +2,6 @@ pub mod ChangeLaws
 pub mod Changes
 pub mod Entries
 pub mod EntryLaws
-pub mod Fixed
 pub mod Keeping
 pub mod Keeps
 pub mod Kept

@@ -5,12 +5,12 @@ use Rattle.std.proofs.Math.Seq.{drop-cons}
 use Rattle.std.specs.List.{list_any}
 use Rattle.std.specs.Option.{option_or}
 use Rattle.mol_base.specs.declared.ident.Id.{Id}
-use Rattle.mol_table.specs.Program.{same_id}
-use Rattle.mol_values.proofs.Ties.{id_ties, any_tied}
-use Rattle.mol_values.specs.Order.{id_eq}
-use Rattle.mol_values.specs.declared.known.Known.{Known}
-use Rattle.mol_values.specs.declared.known.Known.TheVariants as knowns
-use Rattle.mol_values.specs.declared.param.Param.{Param}
+use Rattle.mol_table_rules.specs.Program.{same_id}
+use Rattle.mol_values_types.proofs.Ties.{id_ties, any_tied}
+use Rattle.mol_values_types.specs.Order.{id_eq}
+use Rattle.mol_values_types.specs.declared.known.Known.{Known}
+use Rattle.mol_values_types.specs.declared.known.Known.TheVariants as knowns
+use Rattle.mol_values_types.specs.declared.param.Param.{Param}
 use Rattle.mol_op.specs.Changes.{Name, first_name}
 use Rattle.mol_op.specs.ChangeLaws.{first-append}
 use Rattle.mol_op.specs.Seen.{named_params}

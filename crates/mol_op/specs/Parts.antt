@@ -6,15 +6,15 @@ use Rattle.std.proofs.lemmas.List.{append-nil}
 use Rattle.std.specs.List.{list_any}
 use Rattle.std.specs.Option.{option_or}
 use Rattle.mol_base.specs.declared.ident.Id.{Id}
-use Rattle.mol_table.specs.Mentions.{Mention, type_mentions}
-use Rattle.mol_table.specs.Program.{Knowns, same_id}
-use Rattle.mol_values.proofs.Ties.{any_tied}
-use Rattle.mol_values.specs.Order.{id_eq}
-use Rattle.mol_values.specs.declared.iblock.IBody.{IBody}
-use Rattle.mol_values.specs.declared.kind.MethodKind.{MethodKind}
-use Rattle.mol_values.specs.declared.kind.MethodKind.TheVariants.{Instance, Static, Constructor}
-use Rattle.mol_values.specs.declared.known.Known.TheVariants as knowns
-use Rattle.mol_values.specs.declared.param.Param.{Param}
+use Rattle.mol_table_rules.specs.Mentions.{Mention, type_mentions}
+use Rattle.mol_table_rules.specs.Program.{Knowns, same_id}
+use Rattle.mol_values_types.proofs.Ties.{any_tied}
+use Rattle.mol_values_types.specs.Order.{id_eq}
+use Rattle.mol_values_types.specs.declared.iblock.IBody.{IBody}
+use Rattle.mol_values_types.specs.declared.kind.MethodKind.{MethodKind}
+use Rattle.mol_values_types.specs.declared.kind.MethodKind.TheVariants.{Instance, Static, Constructor}
+use Rattle.mol_values_types.specs.declared.known.Known.TheVariants as knowns
+use Rattle.mol_values_types.specs.declared.param.Param.{Param}
 use Rattle.mol_op.specs.Changes.{Name, know_all}
 use Rattle.mol_op.specs.Rows.{type_tests, param_tests, block_tests, known_block_tests}
 use Rattle.mol_op.specs.Seen.{named_params}

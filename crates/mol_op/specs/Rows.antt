@@ -2,26 +2,26 @@
 -- what is written.
 use Rattle.std.specs.Prelude.{ℕ, Bool, true, false, List, [], ◌∷◌, ◌++◌, map, length, Option, None, Some, if◌then◌else◌}
 use Rattle.mol_base.specs.declared.ident.Id.{Id}
-use Rattle.mol_table.specs.Mentions.{type_mentions, maybe_mentions, body_mentions, parent_mentions}
-use Rattle.mol_table.specs.Program.{Knowns, cell}
-use Rattle.mol_table.specs.TypeForms.{is_void}
-use Rattle.mol_table.specs.declared.entity.NewEntity.{NewEntity}
-use Rattle.mol_values.specs.Slots.{slot_of}
-use Rattle.mol_values.specs.declared.iblock.IBody.{IBody}
-use Rattle.mol_values.specs.declared.iexpr.IExpr.{IExpr}
-use Rattle.mol_values.specs.declared.itype.IType.{IType}
-use Rattle.mol_values.specs.declared.itype.IType.TheVariants as types
-use Rattle.mol_values.specs.declared.kind.Kind.TheVariants as kinds
-use Rattle.mol_values.specs.declared.kind.MethodKind.{MethodKind}
-use Rattle.mol_values.specs.declared.kind.MethodKind.TheVariants.{Instance, Static, Constructor}
-use Rattle.mol_values.specs.declared.known.Known.TheVariants as knowns
-use Rattle.mol_values.specs.declared.param.Param.{Param}
-use Rattle.mol_values.specs.declared.value.Value.{Value}
-use Rattle.mol_values.specs.declared.value.Value.TheVariants as values
-use Rattle.mol_values.specs.declared.words.Notes.{Notes}
-use Rattle.mol_values.specs.declared.words.Words.{Words}
+use Rattle.mol_table_rules.specs.Mentions.{type_mentions, maybe_mentions, body_mentions, parent_mentions}
+use Rattle.mol_table_rules.specs.Program.{Knowns, cell}
+use Rattle.mol_table_rules.specs.TypeForms.{is_void}
+use Rattle.mol_table_rules.specs.declared.entity.NewEntity.{NewEntity}
+use Rattle.mol_values_types.specs.Slots.{slot_of}
+use Rattle.mol_values_types.specs.declared.iblock.IBody.{IBody}
+use Rattle.mol_values_types.specs.declared.iexpr.IExpr.{IExpr}
+use Rattle.mol_values_types.specs.declared.itype.IType.{IType}
+use Rattle.mol_values_types.specs.declared.itype.IType.TheVariants as types
+use Rattle.mol_values_types.specs.declared.kind.Kind.TheVariants as kinds
+use Rattle.mol_values_types.specs.declared.kind.MethodKind.{MethodKind}
+use Rattle.mol_values_types.specs.declared.kind.MethodKind.TheVariants.{Instance, Static, Constructor}
+use Rattle.mol_values_types.specs.declared.known.Known.TheVariants as knowns
+use Rattle.mol_values_types.specs.declared.param.Param.{Param}
+use Rattle.mol_values_types.specs.declared.value.Value.{Value}
+use Rattle.mol_values_types.specs.declared.value.Value.TheVariants as values
+use Rattle.mol_values_types.specs.declared.words.Notes.{Notes}
+use Rattle.mol_values_types.specs.declared.words.Words.{Words}
 use Rattle.mol_op.specs.Changes.{Write, Name}
-use Rattle.mol_op.specs.Fixed.{is_of_object}
+use Rattle.jav_names.specs.Members.{is_object_method}
 use Rattle.mol_op.specs.Tests.{Test, needs, makes, lists, mentioned, mentioned_inside, declares, fails, tests_fault}
 use Rattle.mol_op.specs.declared.add_class.AddClass.{AddClass}
 use Rattle.mol_op.specs.declared.add_constructor.AddConstructor.{AddConstructor}
@@ -158,7 +158,7 @@ add_method_tests op =
 
 abbrev pub add_method_entities : AddMethod → List NewEntity
 add_method_entities op =
-    new_method op.method op.name op.result op.params op.kind (is_of_object op.name (length op.params))
+    new_method op.method op.name op.result op.params op.kind (is_object_method op.name (length op.params))
     ∷ new_decl op.decl op.owner op.method op.words op.notes op.body ∷ []
 
 -- ---- add-override

@@ -1,9 +1,9 @@
 -- What the values of an operation may mention: what is known, and what the operation itself adds.
 use Rattle.std.specs.Prelude.{List, map, ◌++◌}
 use Rattle.mol_base.specs.declared.ident.Id.{Id}
-use Rattle.mol_table.specs.Program.{Knowns}
-use Rattle.mol_values.specs.declared.known.Known.TheVariants as knowns
-use Rattle.mol_values.specs.declared.param.Param.{Param}
+use Rattle.mol_table_rules.specs.Program.{Knowns}
+use Rattle.mol_values_types.specs.declared.known.Known.TheVariants as knowns
+use Rattle.mol_values_types.specs.declared.param.Param.{Param}
 use Rattle.mol_op.specs.Changes.{Name, know_all}
 use Rattle.mol_op.specs.declared.mentions.seen.Seen.{Seen}
 

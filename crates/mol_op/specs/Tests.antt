@@ -5,13 +5,13 @@ use Rattle.std.specs.FinMap.{get}
 use Rattle.std.specs.List.{list_any}
 use Rattle.std.specs.Option.{option_or}
 use Rattle.mol_base.specs.declared.ident.Id.{Id}
-use Rattle.mol_table.specs.Mentions.{Role, Mention, a_listed_param}
-use Rattle.mol_table.specs.Program.{Knowns, same_id}
-use Rattle.mol_table.specs.Rules.{fills}
-use Rattle.mol_values.specs.declared.kind.MethodKind.{MethodKind}
-use Rattle.mol_values.specs.declared.kind.MethodKind.TheVariants.{Instance, Static, Constructor}
-use Rattle.mol_values.specs.declared.known.Known.{Known}
-use Rattle.mol_values.specs.declared.known.Known.TheVariants as knowns
+use Rattle.mol_table_rules.specs.Mentions.{Role, Mention, a_listed_param}
+use Rattle.mol_table_rules.specs.Program.{Knowns, same_id}
+use Rattle.mol_table_rules.specs.Rules.{fills}
+use Rattle.mol_values_types.specs.declared.kind.MethodKind.{MethodKind}
+use Rattle.mol_values_types.specs.declared.kind.MethodKind.TheVariants.{Instance, Static, Constructor}
+use Rattle.mol_values_types.specs.declared.known.Known.{Known}
+use Rattle.mol_values_types.specs.declared.known.Known.TheVariants as knowns
 use Rattle.mol_op.specs.Changes.{Name, know_all}
 use Rattle.mol_op.specs.declared.fault.OpFault.{OpFault}
 use Rattle.mol_op.specs.declared.fault.OpFault.TheVariants.{Unknown, WrongKind, BadTag, NotFresh}

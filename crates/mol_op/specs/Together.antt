@@ -6,8 +6,8 @@ use Rattle.std.specs.FinMap.{get}
 use Rattle.std.specs.List.{AllByRecursion}
 use Rattle.std.specs.Option.{option_or}
 use Rattle.mol_base.specs.declared.ident.Id.{Id}
-use Rattle.mol_table.specs.Program.{Program, Knowns, same_id}
-use Rattle.mol_values.specs.declared.known.Known.{Known}
+use Rattle.mol_table_rules.specs.Program.{Program, Knowns, same_id}
+use Rattle.mol_values_types.specs.declared.known.Known.{Known}
 use Rattle.mol_op.specs.Changes.{Write, Name, put_all, know_all, written, last_write, first_name}
 use Rattle.mol_op.specs.Operation.{StayNew, AreApart}
 use Rattle.mol_op.specs.ChangeLaws.{id_self, or-none, get-know_all, get-put_all, same_known, same_cells}

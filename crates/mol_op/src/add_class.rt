@@ -8,8 +8,9 @@ use crate::mentions::{Seen, check_parent};
 use crate::writes::rules;
 use crate::{ApplyFault, OpFault, Operation};
 use mol_base::{Id, List, OutOfMemory, Tag, Text};
-use mol_table::{NewEntity, Table};
-use mol_values::{IType, Kind, Notes, Value, Words};
+use mol_table::Table;
+use mol_table_rules::NewEntity;
+use mol_values_types::{IType, Kind, Notes, Value, Words};
 use std::alloc::Global;
 
 /// Adds a class without members.

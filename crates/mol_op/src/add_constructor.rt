@@ -8,8 +8,9 @@ use crate::new_method::check_new_method;
 use crate::writes::{decl_entity, method_entity, rules};
 use crate::{ApplyFault, OpFault, Operation};
 use mol_base::{Id, List, OutOfMemory, Tag, Text};
-use mol_table::{NewEntity, Table};
-use mol_values::{IBody, IType, MethodKind, Notes, Param, Words};
+use mol_table::Table;
+use mol_table_rules::NewEntity;
+use mol_values_types::{IBody, IType, MethodKind, Notes, Param, Words};
 use std::alloc::Global;
 
 /// Adds a constructor of a class, with its one declaration.

@@ -8,8 +8,9 @@ use crate::mentions::{Seen, check_maybe, check_type};
 use crate::writes::rules;
 use crate::{ApplyFault, OpFault, Operation};
 use mol_base::{Boxed, Id, List, OutOfMemory, Tag, Text};
-use mol_table::{NewEntity, Table};
-use mol_values::{IExpr, IType, Kind, Known, Notes, Value, Words};
+use mol_table::Table;
+use mol_table_rules::NewEntity;
+use mol_values_types::{IExpr, IType, Kind, Known, Notes, Value, Words};
 use std::alloc::Global;
 
 /// Adds a field to a class.

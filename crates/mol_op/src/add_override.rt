@@ -8,8 +8,9 @@ use crate::mentions::{Seen, check_body};
 use crate::writes::{decl_entity, rules};
 use crate::{ApplyFault, OpFault, Operation};
 use mol_base::{Id, List, OutOfMemory, Tag};
-use mol_table::{NewEntity, Table};
-use mol_values::{IBody, Known, Notes, Words};
+use mol_table::Table;
+use mol_table_rules::NewEntity;
+use mol_values_types::{IBody, Known, Notes, Words};
 use std::alloc::Global;
 
 /// Adds a declaration of an instance method that is known.

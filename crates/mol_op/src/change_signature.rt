@@ -10,7 +10,7 @@ use crate::writes::{rules, set_cell};
 use crate::{ApplyFault, OpFault, Operation};
 use mol_base::{Id, List, OutOfMemory, Tag};
 use mol_table::Table;
-use mol_values::{Cell, IType, Param, Slot, Value};
+use mol_values_types::{Cell, IType, Param, Slot, Value};
 use std::alloc::Global;
 
 /// Gives a method another result and other parameters. Those that are not known become known.
@@ -65,7 +65,7 @@ impl Operation for ChangeSignature {
 
 impl ChangeSignature {
     ghost use Rattle.std.specs.Prelude.{◌≡◌, if◌then◌else◌, IfOk};
-    ghost use Rattle.mol_table.specs.TypeForms.{is_void};
+    ghost use Rattle.mol_table_rules.specs.TypeForms.{is_void};
     ghost use Rattle.mol_op.specs.declared.conditions.Want.TheVariants.{Method, Called};
 
     /// What the method has to be. The result of a constructor stays `void`.

@@ -1,8 +1,8 @@
 //! Tests of single identities: the parts of the conditions of operations.
 ghost use Rattle.std.specs.Prelude.{◌≡◌, ℕ, List, [], Some};
-ghost use Rattle.mol_values.specs.declared.known.Known.TheVariants as knowns;
+ghost use Rattle.mol_values_types.specs.declared.known.Known.TheVariants as knowns;
 ghost use Rattle.std.specs.FinMap.{get};
-ghost use Rattle.mol_table.specs.Program.{Knowns};
+ghost use Rattle.mol_table_rules.specs.Program.{Knowns};
 ghost use Rattle.mol_op.specs.Changes.{Name};
 ghost use Rattle.mol_op.specs.Rows.{block_tests, known_block_tests};
 ghost use Rattle.mol_op.specs.Tests.{IsVerdict, wanted, need_fault, new_fault, list_fault, is_of_kind, test_fault, tests_fault, declares};
@@ -10,7 +10,7 @@ ghost use Rattle.mol_op.specs.Tests.{IsVerdict, wanted, need_fault, new_fault, l
 use crate::OpFault;
 use mol_base::{Id, Tag};
 use mol_table::Table;
-use mol_values::{IBody, Known, MethodKind};
+use mol_values_types::{IBody, Known, MethodKind};
 
 /// What an identity has to be known as.
 #[derive(Clone, Copy, Debug, PartialEq, Eq)]
@@ -86,7 +86,7 @@ pub fn listed(table: &Table, tag: &Tag, method: &Id, id: &Id, named: bool) -> Re
 }
 
 /// A parameter that is known as one of `own` is one of the method, and the operation does not name it before.
-#[tactic(auto, using(mol_values::proofs::Ties::id_ties))]
+#[tactic(auto, using(mol_values_types::proofs::Ties::id_ties))]
 fn own_param(own: &Id, method: &Id, id: &Id, named: bool) -> Result<(), OpFault>
     ensures { (tag : List ℕ) → IsVerdict (list_fault tag named method.now id.now (Some (knowns.Param own.now))) result }
 {

@@ -2,7 +2,7 @@
 ghost use Rattle.std.specs.Prelude.{◌≡◌, IfOk};
 
 use mol_base::{List, OutOfMemory};
-use mol_values::{IBody, IExpr, IType, Param};
+use mol_values_types::{IBody, IExpr, IType, Param};
 use std::alloc::Global;
 
 /// Parameters that equal these.

@@ -4,7 +4,7 @@ use crate::writes::set_cell;
 use crate::{ApplyFault, OpFault, Operation};
 use mol_base::{Id, OutOfMemory, Tag};
 use mol_table::Table;
-use mol_values::Value;
+use mol_values_types::Value;
 use std::alloc::Global;
 
 /// Ends the life of a class, a declaration or a field. Its cells stay.

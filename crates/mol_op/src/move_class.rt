@@ -7,7 +7,7 @@ use crate::writes::set_cell;
 use crate::{ApplyFault, OpFault, Operation};
 use mol_base::{Id, OutOfMemory, Tag, Text};
 use mol_table::Table;
-use mol_values::Value;
+use mol_values_types::Value;
 use std::alloc::Global;
 
 /// Moves a class to another package.

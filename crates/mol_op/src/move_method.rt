@@ -4,7 +4,7 @@ use crate::writes::set_cell;
 use crate::{ApplyFault, OpFault, Operation};
 use mol_base::{Id, OutOfMemory, Tag};
 use mol_table::Table;
-use mol_values::{MethodKind, Value};
+use mol_values_types::{MethodKind, Value};
 use std::alloc::Global;
 
 /// Moves the declaration of a static method to another class.

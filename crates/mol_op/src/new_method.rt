@@ -8,7 +8,7 @@ use crate::mentions::{Seen, check_body};
 use crate::params::new_params;
 use mol_base::{Id, Tag};
 use mol_table::Table;
-use mol_values::{IBody, Known, MethodKind, Param};
+use mol_values_types::{IBody, Known, MethodKind, Param};
 
 /// The parameters of a method that is added are new, its declaration has a block or is one of an instance
 /// method, and what the body mentions may be mentioned.

@@ -2,7 +2,7 @@
 ghost use Rattle.std.specs.Prelude.{◌≡◌, ◌==◌, ◌&&◌};
 ghost use Rattle.std.specs.List.{list_any};
 ghost use Rattle.std.specs.Str.{bytes_eq};
-ghost use Rattle.mol_op.specs.Fixed.{is_of_object};
+ghost use Rattle.jav_names.specs.Members.{is_object_method};
 
 /// The name and the number of parameters of each (JLS 4.3.2).
 const OF_OBJECT: [(&[u8], usize); 11] = [
@@ -21,7 +21,7 @@ const OF_OBJECT: [(&[u8], usize); 11] = [
 
 /// Whether a method of `java.lang.Object` has this name and this number of parameters. It takes no memory.
 pub fn is_of_object(name: &[u8], arity: usize) -> bool
-    ensures { result ≡ is_of_object name.now arity }
+    ensures { result ≡ is_object_method name.now arity }
 {
     is_among(&OF_OBJECT, name, arity)
 }

@@ -89,19 +89,58 @@ impl Op {
         ensures { IfOk result (λ copy. copy ≡ self.now) }
     {
         match self {
-            Op::AddClass(op) => Ok(Op::AddClass(op.copy(alloc)?)),
-            Op::AddField(op) => Ok(Op::AddField(op.copy(alloc)?)),
-            Op::AddMethod(op) => Ok(Op::AddMethod(op.copy(alloc)?)),
-            Op::AddOverride(op) => Ok(Op::AddOverride(op.copy(alloc)?)),
-            Op::AddConstructor(op) => Ok(Op::AddConstructor(op.copy(alloc)?)),
-            Op::Delete(op) => Ok(Op::Delete(op.copy(alloc)?)),
-            Op::SetBody(op) => Ok(Op::SetBody(op.copy(alloc)?)),
-            Op::SetValue(op) => Ok(Op::SetValue(op.copy(alloc)?)),
-            Op::RenameClass(op) => Ok(Op::RenameClass(op.copy(alloc)?)),
-            Op::RenameMethod(op) => Ok(Op::RenameMethod(op.copy(alloc)?)),
-            Op::MoveClass(op) => Ok(Op::MoveClass(op.copy(alloc)?)),
-            Op::MoveMethod(op) => Ok(Op::MoveMethod(op.copy(alloc)?)),
-            Op::ChangeSignature(op) => Ok(Op::ChangeSignature(op.copy(alloc)?)),
+            Op::AddClass(op) => match op.copy(alloc) {
+                Ok(op) => Ok(Op::AddClass(op)),
+                Err(want) => Err(want),
+            },
+            Op::AddField(op) => match op.copy(alloc) {
+                Ok(op) => Ok(Op::AddField(op)),
+                Err(want) => Err(want),
+            },
+            Op::AddMethod(op) => match op.copy(alloc) {
+                Ok(op) => Ok(Op::AddMethod(op)),
+                Err(want) => Err(want),
+            },
+            Op::AddOverride(op) => match op.copy(alloc) {
+                Ok(op) => Ok(Op::AddOverride(op)),
+                Err(want) => Err(want),
+            },
+            Op::AddConstructor(op) => match op.copy(alloc) {
+                Ok(op) => Ok(Op::AddConstructor(op)),
+                Err(want) => Err(want),
+            },
+            Op::Delete(op) => match op.copy(alloc) {
+                Ok(op) => Ok(Op::Delete(op)),
+                Err(want) => Err(want),
+            },
+            Op::SetBody(op) => match op.copy(alloc) {
+                Ok(op) => Ok(Op::SetBody(op)),
+                Err(want) => Err(want),
+            },
+            Op::SetValue(op) => match op.copy(alloc) {
+                Ok(op) => Ok(Op::SetValue(op)),
+                Err(want) => Err(want),
+            },
+            Op::RenameClass(op) => match op.copy(alloc) {
+                Ok(op) => Ok(Op::RenameClass(op)),
+                Err(want) => Err(want),
+            },
+            Op::RenameMethod(op) => match op.copy(alloc) {
+                Ok(op) => Ok(Op::RenameMethod(op)),
+                Err(want) => Err(want),
+            },
+            Op::MoveClass(op) => match op.copy(alloc) {
+                Ok(op) => Ok(Op::MoveClass(op)),
+                Err(want) => Err(want),
+            },
+            Op::MoveMethod(op) => match op.copy(alloc) {
+                Ok(op) => Ok(Op::MoveMethod(op)),
+                Err(want) => Err(want),
+            },
+            Op::ChangeSignature(op) => match op.copy(alloc) {
+                Ok(op) => Ok(Op::ChangeSignature(op)),
+                Err(want) => Err(want),
+            },
         }
     }
 }

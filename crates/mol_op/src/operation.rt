@@ -1,7 +1,7 @@
 //! What all operations have in common.
 ghost use Rattle.std.specs.Prelude.{◌≡◌, ◌⊎◌, ℕ, List, Option, None, Some, OnOk, OnErr, IfErr};
-ghost use Rattle.mol_table.specs.Program.{Program, Knowns};
-ghost use Rattle.mol_table.specs.Rules.{IsProgram};
+ghost use Rattle.mol_table_rules.specs.Program.{Program, Knowns};
+ghost use Rattle.mol_table_rules.specs.Rules.{IsProgram};
 ghost use Rattle.mol_op.specs.Changes.{Write, Name, know_all, written};
 ghost use Rattle.mol_op.specs.Operation.{IsCause, Within, AreNamed, StayNew, AreApart};
 ghost use Rattle.mol_op.specs.Owned.{AreOwned, rules-owned};

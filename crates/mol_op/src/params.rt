@@ -1,8 +1,8 @@
 //! Tests of the parameters of an operation: their identities, and what their types mention.
 ghost use Rattle.std.specs.Prelude.{◌≡◌, ◌||◌, []};
 ghost use Rattle.std.specs.List.{list_any};
-ghost use Rattle.mol_values.specs.Order.{id_eq};
-ghost use Rattle.mol_values.specs.declared.known.Known.TheVariants as knowns;
+ghost use Rattle.mol_values_types.specs.Order.{id_eq};
+ghost use Rattle.mol_values_types.specs.declared.known.Known.TheVariants as knowns;
 ghost use Rattle.mol_op.specs.Rows.{param_tests};
 ghost use Rattle.mol_op.specs.Tests.{IsVerdict, tests_fault, makes, lists};
 
@@ -11,7 +11,7 @@ use crate::conditions::{fresh, listed};
 use crate::mentions::{Seen, check_type, entity_of, is_listed};
 use mol_base::{Id, Tag};
 use mol_table::Table;
-use mol_values::{Known, Param};
+use mol_values_types::{Known, Param};
 
 /// The parameters of a method that is added are new. The entities are those that are named before them.
 pub fn new_params(

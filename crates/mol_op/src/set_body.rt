@@ -9,7 +9,7 @@ use crate::writes::{rules, set_cell};
 use crate::{ApplyFault, OpFault, Operation};
 use mol_base::{Id, OutOfMemory, Tag};
 use mol_table::Table;
-use mol_values::{IBody, Value};
+use mol_values_types::{IBody, Value};
 use std::alloc::Global;
 
 /// Gives a declaration another body.

@@ -9,7 +9,7 @@ use crate::writes::set_cell;
 use crate::{ApplyFault, OpFault, Operation};
 use mol_base::{Boxed, Id, OutOfMemory, Tag};
 use mol_table::Table;
-use mol_values::{IExpr, IType, Value};
+use mol_values_types::{IExpr, IType, Value};
 use std::alloc::Global;
 
 /// Gives a field another type and first value.

@@ -3,12 +3,13 @@ ghost use Rattle.std.specs.Prelude.{◌≡◌, ◌∷◌, [], IfOk};
 ghost use Rattle.mol_op.specs.Changes.{written};
 ghost use Rattle.mol_op.specs.Keeps.{MaySet};
 ghost use Rattle.mol_op.specs.Rows.{write, new_decl, new_method};
-ghost use Rattle.mol_table.specs.Rules.{IsProgram};
+ghost use Rattle.mol_table_rules.specs.Rules.{IsProgram};
 
 use crate::copies::{copy_body, copy_params};
 use mol_base::{Id, List, OutOfMemory, Text};
-use mol_table::{NewEntity, Table};
-use mol_values::{Cell, IBody, IType, Kind, MethodKind, Notes, Param, Value, Words};
+use mol_table::Table;
+use mol_table_rules::NewEntity;
+use mol_values_types::{Cell, IBody, IType, Kind, MethodKind, Notes, Param, Value, Words};
 use std::alloc::Global;
 
 /// The rules of programs hold of every table. It does nothing.

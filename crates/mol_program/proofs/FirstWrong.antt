@@ -5,7 +5,7 @@ use Rattle.mol_resolve_faults.specs.declared.fault.FaultPlace.{FaultPlace}
 use Rattle.mol_resolve_faults.specs.declared.fault.ResolveFault.{ResolveFault}
 use Rattle.mol_base.specs.Files.{ArePathsApart, FilePair}
 use Rattle.mol_program.specs.Programs.{AreParsed, IsUnread, Refuses, ReportsNames}
-use Rattle.mol_program.specs.declared.fault.ProgramFault.TheVariants.{Source, Resolve}
+use Rattle.mol_program.specs.declared.fault.SourceFault.TheVariants.{Lex, Parse, Resolve}
 use Rattle.mol_program.specs.declared.fault.ReadFault.{ReadFault}
 use Rattle.mol_program.specs.declared.fault.ReadFault.TheVariants.{Refused, OutOfMemory}
 use Rattle.mol_program.proofs.TreesOfFiles.{file-of, sources-of, trees-apart}
@@ -19,7 +19,12 @@ use Rattle.mol_resolve_rules.specs.Files.{Files}
 pub first-unread : (files before after : List FilePair) (trees : Files) (file : FilePair) (refusal : ReadFault)
     → files ≡ before ++ file ∷ after → AreParsed before trees → IsUnread file refusal → Refuses files refusal
 first-unread files before after trees file OutOfMemory split are wrong = tt
-first-unread files before after trees file (Refused place (Source fault)) split are wrong = record {
+first-unread files before after trees file (Refused place (Lex fault)) split are wrong = record {
+  file = file;
+  first = record { before = before; after = after; split = split; sources = sources-of before trees are; there = wrong.0 };
+  at = wrong.1;
+}
+first-unread files before after trees file (Refused place (Parse fault)) split are wrong = record {
   file = file;
   first = record { before = before; after = after; split = split; sources = sources-of before trees are; there = wrong.0 };
   at = wrong.1;

@@ -9,7 +9,7 @@ use Rattle.mol_resolve_laws.proofs.EntitiesPlain.{entities_plain}
 use Rattle.mol_resolve_laws.specs.Laws.{IsTree}
 use Rattle.mol_base.specs.Files.{ArePathsApart, FilePair, file_pair, file_pairs}
 use Rattle.mol_program.specs.SourceTexts.{text_of}
-use Rattle.mol_program.specs.Programs.{AreParsed, AreRead, IsProgram, IsSourceFile}
+use Rattle.mol_program.specs.Programs.{AreParsed, IsSourceFile}
 use Rattle.mol_resolve_rules.specs.Files.{File, Files, HasFile}
 use Rattle.mol_resolve_rules.specs.ReadAs.{IsParsed}
 use Rattle.mol_resolve_rules.specs.ResolveFaults.{HavePathsApart}
@@ -34,13 +34,6 @@ parsed-push [] [] file tree are is = (is, tt)
 parsed-push [] (t ∷ trees) file tree are is = absurd are
 parsed-push (f ∷ files) [] file tree are is = absurd are
 parsed-push (f ∷ files) (t ∷ trees) file tree are is = (are.0, parsed-push files trees file tree are.1 is)
-
--- trees that read as a program
-pub program-of : (files : List FilePair) (trees : Files) → AreRead files trees → IsProgram files
-program-of files trees is = record {
-  program = is.program.program;
-  read = record { files = trees; parsed = is.parsed; read = is.program.read };
-}
 
 -- each file is a source
 pub sources-of : (files : List FilePair) (trees : Files) → AreParsed files trees → All IsSourceFile files

@@ -10,36 +10,22 @@ use Rattle.mol_resolve_faults.specs.declared.fault.ResolveFault.TheVariants as n
 use Rattle.mol_program.specs.FaultTexts.{place_at}
 use Rattle.mol_base.specs.Files.{FilePair}
 use Rattle.mol_program.specs.SourceTexts.{text_of, texts_of}
-use Rattle.mol_program.specs.declared.fault.ProgramFault.{ProgramFault}
-use Rattle.mol_program.specs.declared.fault.ProgramFault.TheVariants.{Source, Resolve}
+use Rattle.mol_program.specs.declared.fault.SourceFault.{SourceFault}
+use Rattle.mol_program.specs.declared.fault.SourceFault.TheVariants.{Lex, Parse, Resolve}
 use Rattle.mol_program.specs.declared.fault.ReadFault.{ReadFault}
 use Rattle.mol_program.specs.declared.fault.ReadFault.TheVariants.{Refused, OutOfMemory}
 use Rattle.jav_source.specs.Sources.{IsFaultOf}
-use Rattle.jav_source.specs.declared.fault.SourceFault.{SourceFault}
+use Rattle.jav_source.specs.declared.fault.TextFault.{TextFault}
+use Rattle.jav_source.specs.declared.fault.TextFault.TheVariants as text
 use Rattle.mol_resolve_rules.specs.Files.{File, Files}
-use Rattle.mol_resolve_rules.specs.ReadAs.{FilesReadAs, IsParsed, IsPlain, ReadAs}
-use Rattle.mol_table.specs.Program.{Program}
+use Rattle.mol_resolve_rules.specs.ReadAs.{FilesReadAs, IsParsed, IsPlain}
+use Rattle.mol_table_rules.specs.Program.{Program}
 
 -- # Programs
 
 -- the files are the sources of these trees, one of each
 abbrev pub AreParsed : List FilePair → Files → Type 0
 AreParsed files trees = AllZip IsParsed (texts_of files) trees
-
--- the trees read as a program: each name in them has a meaning
-pub record HasProgram (trees : Files) : Type 0 where
-  pub program : Program
-  pub read : FilesReadAs trees program
-
--- the files are the sources of these trees, which read as a program
-pub record AreRead (files : List FilePair) (trees : Files) : Type 0 where
-  pub parsed : AreParsed files trees
-  pub program : HasProgram trees
-
--- the files read as a program
-pub record IsProgram (files : List FilePair) : Type 0 where
-  pub program : Program
-  pub read : ReadAs (texts_of files) program
 
 -- the files are the sources of trees that read as this program, which is in plain form
 pub record IsReadAs (files : List FilePair) (program : Program) : Type 0 where
@@ -56,7 +42,7 @@ pub record IsSourceFile (file : FilePair) : Type 0 where
   pub parsed : IsParsed (text_of file) tree
 
 -- the first of these files that is the source of no tree, and what is wrong with it
-pub record IsFirstUnread (files : List FilePair) (file : FilePair) (fault : SourceFault) : Type 0 where
+pub record IsFirstUnread (files : List FilePair) (file : FilePair) (fault : TextFault) : Type 0 where
   pub before : List FilePair
   pub after : List FilePair
   pub split : files ≡ before ++ file ∷ after
@@ -71,12 +57,13 @@ pub record IsFirstMisnamed (files : List FilePair) (file : FilePair) (fault : Re
   pub stands : slice_get files (place_of fault).unit ≡ Some file
 
 -- what is wrong first with these files as the sources of a program, and with which of them
-abbrev pub IsFirstWrong : List FilePair → FilePair → ProgramFault → Type 0
-IsFirstWrong files file (Source fault) = IsFirstUnread files file fault
+abbrev pub IsFirstWrong : List FilePair → FilePair → SourceFault → Type 0
+IsFirstWrong files file (Lex fault) = IsFirstUnread files file (text.Lex fault)
+IsFirstWrong files file (Parse fault) = IsFirstUnread files file (text.Parse fault)
 IsFirstWrong files file (Resolve fault) = IsFirstMisnamed files file fault
 
 -- where it is
-abbrev pub place_in : FilePair → ProgramFault → Place
+abbrev pub place_in : FilePair → SourceFault → Place
 place_in file fault = record {
   file = file.0;
   line = line file.1 (place_at file.1 fault);
@@ -84,7 +71,7 @@ place_in file fault = record {
 }
 
 -- The files are no program: this is wrong first, at this place.
-pub record AreRefused (files : List FilePair) (place : Place) (fault : ProgramFault) : Type 0 where
+pub record AreRefused (files : List FilePair) (place : Place) (fault : SourceFault) : Type 0 where
   pub file : FilePair
   pub first : IsFirstWrong files file fault
   pub at : place ≡ place_in file fault
@@ -98,7 +85,8 @@ Refuses files OutOfMemory = ⊤
 
 -- the same of one file that is the source of no tree
 abbrev pub IsUnread : FilePair → ReadFault → Type 0
-IsUnread file (Refused place (Source fault)) = IsFaultOf file.1 fault × (place ≡ place_in file (Source fault))
+IsUnread file (Refused place (Lex fault)) = IsFaultOf file.1 (text.Lex fault) × (place ≡ place_in file (Lex fault))
+IsUnread file (Refused place (Parse fault)) = IsFaultOf file.1 (text.Parse fault) × (place ≡ place_in file (Parse fault))
 IsUnread file (Refused place (Resolve fault)) = ⊥
 IsUnread file OutOfMemory = ⊤
 
@@ -107,10 +95,11 @@ abbrev pub ReportsNames : List FilePair → ResolveFault → Type 0
 ReportsNames files fault = fault ≢ names.OutOfMemory → (file : FilePair) × IsFirstMisnamed files file fault
 
 -- what is wrong with the text of a file; of faults of names nothing is said
-abbrev pub IsWrongWith : List ℕ → ProgramFault → Type 0
-IsWrongWith bytes (Source fault) = IsFaultOf bytes fault
+abbrev pub IsWrongWith : List ℕ → SourceFault → Type 0
+IsWrongWith bytes (Lex fault) = IsFaultOf bytes (text.Lex fault)
+IsWrongWith bytes (Parse fault) = IsFaultOf bytes (text.Parse fault)
 IsWrongWith bytes (Resolve fault) = ⊤
 
 -- the refusal of a file for this, or want of memory
-abbrev pub IsRefusedFor : FilePair → ProgramFault → ReadFault → Type 0
+abbrev pub IsRefusedFor : FilePair → SourceFault → ReadFault → Type 0
 IsRefusedFor file fault refusal = (refusal ≡ OutOfMemory) ⊎ (refusal ≡ Refused (place_in file fault) fault)

@@ -1,13 +1,18 @@
 //! Why source files are no program.
-use jav_parse_unit::Feature;
-use jav_source::SourceFault;
+ghost use Rattle.std.specs.Prelude.{◌≡◌};
+ghost use Rattle.mol_program.specs.FaultTexts.{feature, name};
+
+use jav_lex::LexFault;
+use jav_parse_unit::{Feature, ParseFault};
+use jav_source::TextFault;
 use mol_base::{OutOfMemory, Place};
 use mol_resolve_faults::ResolveFault;
 
-/// What is wrong with a source file of a program: with its text, or else with the names in it.
+/// What is wrong with a source file of a program: with its bytes, else with its tokens, else with the names in it.
 #[derive(Clone, Copy, Debug, PartialEq, Eq)]
-pub enum ProgramFault {
-    Source(SourceFault),
+pub enum SourceFault {
+    Lex(LexFault),
+    Parse(ParseFault),
     Resolve(ResolveFault),
 }
 
@@ -15,21 +20,19 @@ pub enum ProgramFault {
 #[derive(Debug, Drop)]
 pub enum ReadFault {
     /// They are none: where the first fault is, and what it is.
-    Refused(Place, ProgramFault),
+    Refused(Place, SourceFault),
     OutOfMemory,
 }
 
-impl ProgramFault {
-    ghost use Rattle.std.specs.Prelude.{◌≡◌};
-    ghost use Rattle.mol_program.specs.FaultTexts.{feature, name};
-
+impl SourceFault {
     /// Its name in messages: the words of the variant in lower case, joined by `-`. It takes no memory.
     pub fn name(&self) -> &'static str
         ensures { result.now ≡ name self.now }
     {
         match self {
-            ProgramFault::Source(fault) => fault.name(),
-            ProgramFault::Resolve(fault) => fault.name(),
+            SourceFault::Lex(fault) => TextFault::Lex(*fault).name(),
+            SourceFault::Parse(fault) => TextFault::Parse(*fault).name(),
+            SourceFault::Resolve(fault) => fault.name(),
         }
     }
 
@@ -38,8 +41,9 @@ impl ProgramFault {
         ensures { result ≡ feature self.now }
     {
         match self {
-            ProgramFault::Source(fault) => fault.feature(),
-            ProgramFault::Resolve(_) => None,
+            SourceFault::Lex(_) => None,
+            SourceFault::Parse(fault) => TextFault::Parse(*fault).feature(),
+            SourceFault::Resolve(_) => None,
         }
     }
 }

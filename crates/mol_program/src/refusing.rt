@@ -6,14 +6,14 @@ ghost use Rattle.mol_program.specs.FaultTexts.{place_at};
 ghost use Rattle.mol_base.specs.Files.{AreSmall, file_pair, file_pairs};
 ghost use Rattle.mol_program.specs.Programs.{IsRefusedFor, IsWrongWith, Refuses, ReportsNames};
 
-use crate::fault::{ProgramFault, ReadFault};
-use jav_source::line_and_column_of;
+use crate::fault::{ReadFault, SourceFault};
+use jav_source::{TextFault, line_and_column_of};
 use mol_base::{File, OutOfMemory, Place, Which, line_and_column};
 use mol_resolve_faults::ResolveFault;
 use std::alloc::Global;
 
 /// A file that is refused for this fault.
-pub(crate) fn refused(alloc: Global, file: &File, fault: ProgramFault) -> ReadFault
+pub(crate) fn refused(alloc: Global, file: &File, fault: SourceFault) -> ReadFault
     requires small { length file.now.bytes ≤ most Which.FileBytes }
     requires fault { IsWrongWith file.now.bytes fault }
     ensures { IsRefusedFor (file_pair file.now) fault result }
@@ -26,15 +26,16 @@ pub(crate) fn refused(alloc: Global, file: &File, fault: ProgramFault) -> ReadFa
 }
 
 /// The line and the column of a fault in the bytes of its file. Both count from 1, the column in characters.
-fn line_and_column_in(bytes: &[u8], fault: &ProgramFault) -> (u32, u32)
+fn line_and_column_in(bytes: &[u8], fault: &SourceFault) -> (u32, u32)
     requires small { length bytes.now ≤ most Which.FileBytes }
     requires fault { IsWrongWith bytes.now fault.now }
     ensures line { result.0 ≡ line bytes.now (place_at bytes.now fault.now) }
     ensures column { result.1 ≡ column bytes.now (place_at bytes.now fault.now) }
 {
     match fault {
-        ProgramFault::Source(fault) => line_and_column_of(bytes, fault),
-        ProgramFault::Resolve(fault) => {
+        SourceFault::Lex(fault) => line_and_column_of(bytes, &TextFault::Lex(*fault)),
+        SourceFault::Parse(fault) => line_and_column_of(bytes, &TextFault::Parse(*fault)),
+        SourceFault::Resolve(fault) => {
             let at = fault.place().at as usize;
             line_and_column(bytes, at.min(bytes.len()))
         },
@@ -51,7 +52,7 @@ pub(crate) fn refused_names(alloc: Global, files: &[File], fault: ResolveFault) 
         ResolveFault::OutOfMemory => ReadFault::OutOfMemory,
         fault => {
             let file = &files[fault.place().unit as usize];
-            refused(alloc, file, ProgramFault::Resolve(fault))
+            refused(alloc, file, SourceFault::Resolve(fault))
         },
     }
 }

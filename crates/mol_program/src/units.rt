@@ -1,38 +1,26 @@
-//! The trees of source files that are a program.
-ghost use Rattle.std.specs.Prelude.{◌≤◌, All, IfErr, IfOk, OnOk, length};
+//! The program that source files are.
+ghost use Rattle.std.specs.Prelude.{◌≤◌, IfErr, IfOk, length};
 ghost use Rattle.mol_base.specs.Limits.{most};
-ghost use Rattle.mol_resolve_laws.specs.Laws.{IsTree};
 ghost use Rattle.mol_base.specs.Files.{ArePathsApart, AreSmall, file_pair, file_pairs};
 ghost use Rattle.mol_program.specs.SourceTexts.{text_of};
-ghost use Rattle.mol_program.specs.Programs.{AreParsed, AreRead, HasProgram, IsProgram, IsReadAs, IsUnread, Refuses};
-ghost use Rattle.mol_resolve.specs.Reported.{IsReported};
+ghost use Rattle.mol_program.specs.Programs.{AreParsed, IsReadAs, IsUnread, Refuses};
 ghost use Rattle.mol_resolve_members.specs.sources.Sources.{file_of, files_of};
 ghost use Rattle.mol_resolve_rules.specs.ReadAs.{IsParsed};
 
-use crate::fault::{ProgramFault, ReadFault};
+use crate::fault::{ReadFault, SourceFault};
 use crate::refusing::{refused, refused_names};
-use jav_source::{UnitFault, unit_of};
+use jav_source::{TextFault, UnitFault, unit_of};
 use mol_base::{File, List, Which};
-use mol_resolve::{SourceUnit, resolve, resolve_units};
-use mol_resolve_faults::ResolveFault;
+use mol_resolve::{SourceUnit, resolve_units};
 use mol_table::Table;
 use std::alloc::Global;
 
-/// Refuses source files that are no program, as `read_program` does.
-pub fn check_files(alloc: Global, files: &[File]) -> Result<(), ReadFault>
-    requires small { AreSmall files.now }
-    requires apart { ArePathsApart (file_pairs files.now) }
-    ensures program { OnOk result (IsProgram (file_pairs files.now)) }
-    ensures fault { IfErr result (Refuses (file_pairs files.now)) }
-{
-    drop(read_program(alloc, files)?);
-    Ok(())
-}
-
 /// The program that source files read as, with each name in them by identity: the one table in plain form.
 ///
-/// `files` are as `program_units` takes them, and are refused as it refuses them. Their trees are let go of before the table is made, so that
-/// memory never holds both.
+/// `files` have paths relative to the folder of the program, no two the same, and at most the bytes of a source each. Refuses the first
+/// file that is the source of no tree; where there is none, the first fault of names: by the path of its file, its place there, and the
+/// order of kinds (JLS 6, 7, 8, 15). The time is near-linear in the bytes, and for each look-up of a member in the classes that it goes up.
+/// The trees are let go of before the table is made, so that memory never holds both.
 pub fn read_program(alloc: Global, files: &[File]) -> Result<Table, ReadFault>
     requires small { AreSmall files.now }
     requires apart { ArePathsApart (file_pairs files.now) }
@@ -42,25 +30,6 @@ pub fn read_program(alloc: Global, files: &[File]) -> Result<Table, ReadFault>
     let units = source_units(alloc, files)?;
     match resolve_units(alloc, units) {
         Ok(table) => Ok(table),
-        Err(fault) => Err(refused_names(alloc, files, fault)),
-    }
-}
-
-/// The trees of source files that are a program, in their order: each file is the source of its tree, and each name in them has a
-/// meaning.
-///
-/// `files` have paths relative to the folder of the program, no two the same, and at most the bytes of a source each. Refuses the first
-/// file that is the source of no tree; where there is none, the first fault of names: by the path of its file, its place there, and the
-/// order of kinds (JLS 6, 7, 8, 15). The time is near-linear in the bytes, and for each look-up of a member in the classes that it goes up.
-pub fn program_units(alloc: Global, files: &[File]) -> Result<List<SourceUnit>, ReadFault>
-    requires small { AreSmall files.now }
-    requires apart { ArePathsApart (file_pairs files.now) }
-    ensures read { IfOk result (λ units. AreRead (file_pairs files.now) (files_of units)) }
-    ensures fault { IfErr result (Refuses (file_pairs files.now)) }
-{
-    let units = source_units(alloc, files)?;
-    match refuse_names(alloc, &units) {
-        Ok(()) => Ok(units),
         Err(fault) => Err(refused_names(alloc, files, fault)),
     }
 }
@@ -89,16 +58,11 @@ fn source_unit(alloc: Global, file: &File) -> Result<SourceUnit, ReadFault>
     match unit_of(alloc, file.bytes.items()) {
         Ok(unit) => Ok(SourceUnit { path, unit }),
         Err(UnitFault::OutOfMemory) => Err(ReadFault::OutOfMemory),
-        Err(UnitFault::Source(fault)) => Err(refused(alloc, file, ProgramFault::Source(fault))),
+        Err(UnitFault::Text(TextFault::Lex(fault))) => {
+            Err(refused(alloc, file, SourceFault::Lex(fault)))
+        }
+        Err(UnitFault::Text(TextFault::Parse(fault))) => {
+            Err(refused(alloc, file, SourceFault::Parse(fault)))
+        }
     }
-}
-
-/// Refuses trees that are no program. What each name in them means is let go of.
-fn refuse_names(alloc: Global, units: &List<SourceUnit>) -> Result<(), ResolveFault>
-    requires { All IsTree (files_of units.now) }
-    ensures program { OnOk result (HasProgram (files_of units.now)) }
-    ensures fault { IfErr result (IsReported (files_of units.now)) }
-{
-    drop(resolve(alloc, units)?);
-    Ok(())
 }

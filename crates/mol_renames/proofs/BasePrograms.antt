@@ -5,12 +5,12 @@ use Rattle.std.specs.FinMap.{get, get-empty}
 use Rattle.std.proofs.lemmas.Bool.{and_parts}
 use Rattle.mol_base.specs.Order.{id_cmp}
 use Rattle.mol_base.specs.declared.ident.Id.{Id}
-use Rattle.mol_table.specs.Maps.{AreApart}
-use Rattle.mol_table.specs.Program.{nothing}
-use Rattle.mol_table.specs.Writes.{AreNew}
-use Rattle.mol_table.specs.declared.entity.NewEntity.{NewEntity}
-use Rattle.mol_table.proofs.NewClasses.{IsPlainClass, classes-new}
-use Rattle.mol_table.proofs.Programs.{nothing-IsProgram}
+use Rattle.mol_table_rules.specs.Room.{AreApart}
+use Rattle.mol_table_rules.specs.Program.{nothing}
+use Rattle.mol_table_rules.specs.Writes.{AreNew}
+use Rattle.mol_table_rules.specs.declared.entity.NewEntity.{NewEntity}
+use Rattle.mol_table_rules.proofs.NewClasses.{IsPlainClass, classes-new}
+use Rattle.mol_table_rules.proofs.Programs.{nothing-IsProgram}
 use Rattle.mol_renames.specs.Addresses.{address_pair, address_pairs, is_named}
 use Rattle.mol_renames.specs.ClassFiles.{Address}
 use Rattle.mol_renames.specs.declared.class_file.Address.{Address as Held}

@@ -3,7 +3,7 @@ use Rattle.std.proofs.Common.{◌≡◌, ℕ, Bool, true, false, cond, ◌&&◌,
 use Rattle.std.specs.Prelude.{Option, None, Some, option_map}
 use Rattle.std.specs.Option.{option_or}
 use Rattle.std.specs.Cmp.Lexicographic.{pointwise}
-use Rattle.mol_table.specs.Program.{Program}
+use Rattle.mol_table_rules.specs.Program.{Program}
 use Rattle.mol_renames.specs.Merge.{first_tag}
 use Rattle.mol_renames.specs.LogRefusals.{shared_tag, tag_refusal, replay_refusal, merge_refusal}
 use Rattle.mol_renames.specs.Symmetric.{IsSymmetric}

@@ -10,16 +10,16 @@ use Rattle.std.specs.FinMap.Entries.{below_all, same_entries}
 use Rattle.std.proofs.lemmas.Map.Views.{list_any-from_Contains, Contains-from_any}
 use Rattle.mol_base.specs.Order.{id_cmp, id_cmp-total, id_cmp-IsAntisymmetric}
 use Rattle.mol_base.specs.declared.ident.Id.{Id}
-use Rattle.mol_table.specs.Identities.{IsAscending, AreKnown}
-use Rattle.mol_values.specs.Order.{cell_cmp, slot_number}
-use Rattle.mol_table.specs.Program.{Program, cell}
-use Rattle.mol_table.specs.Rules.{IsProgram}
-use Rattle.mol_values.specs.Slots.{has_slot}
-use Rattle.mol_values.specs.declared.cell.Cell.{Cell}
-use Rattle.mol_values.specs.declared.cell.Slot.{Slot}
-use Rattle.mol_values.specs.declared.known.Known.{Known}
-use Rattle.mol_values.specs.declared.value.Value.{Value}
-use Rattle.mol_table.proofs.Living.{id_tied}
+use Rattle.mol_table_rules.specs.Identities.{IsAscending, AreKnown}
+use Rattle.mol_values_types.specs.Order.{cell_cmp, slot_number}
+use Rattle.mol_table_rules.specs.Program.{Program, cell}
+use Rattle.mol_table_rules.specs.Rules.{IsProgram}
+use Rattle.mol_values_types.specs.Slots.{has_slot}
+use Rattle.mol_values_types.specs.declared.cell.Cell.{Cell}
+use Rattle.mol_values_types.specs.declared.cell.Slot.{Slot}
+use Rattle.mol_values_types.specs.declared.known.Known.{Known}
+use Rattle.mol_values_types.specs.declared.value.Value.{Value}
+use Rattle.mol_table_rules.proofs.Living.{id_tied}
 use Rattle.mol_renames.specs.Cells.{has, id_at_slot, ids_with}
 
 both : (a b : Bool) → T a → T b → T (a && b)

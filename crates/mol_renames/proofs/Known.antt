@@ -8,16 +8,16 @@ use Rattle.std.specs.declared.cmp.Ordering.TheVariants.{Less, Equal, Greater}
 use Rattle.std.specs.Cmp.{tied_itself}
 use Rattle.std.specs.FinMap.{keys, get, contains_key-keys}
 use Rattle.mol_base.specs.declared.ident.Id.{Id}
-use Rattle.mol_values.specs.Order.{cell_cmp, slot_number}
-use Rattle.mol_table.specs.Program.{Program, cell}
-use Rattle.mol_table.specs.Rules.{IsProgram}
-use Rattle.mol_values.specs.Slots.{has_slot}
-use Rattle.mol_values.specs.declared.cell.Cell.{Cell}
-use Rattle.mol_values.specs.declared.cell.Slot.{Slot}
-use Rattle.mol_values.specs.declared.cell.Slot.TheVariants as slots
-use Rattle.mol_values.specs.declared.known.Known.{Known}
-use Rattle.mol_values.specs.declared.known.Known.TheVariants as knowns
-use Rattle.mol_table.proofs.CellOrder.{slot_same, cell_cmp-total, cell_cmp-IsAntisymmetric}
+use Rattle.mol_values_types.specs.Order.{cell_cmp, slot_number}
+use Rattle.mol_table_rules.specs.Program.{Program, cell}
+use Rattle.mol_table_rules.specs.Rules.{IsProgram}
+use Rattle.mol_values_types.specs.Slots.{has_slot}
+use Rattle.mol_values_types.specs.declared.cell.Cell.{Cell}
+use Rattle.mol_values_types.specs.declared.cell.Slot.{Slot}
+use Rattle.mol_values_types.specs.declared.cell.Slot.TheVariants as slots
+use Rattle.mol_values_types.specs.declared.known.Known.{Known}
+use Rattle.mol_values_types.specs.declared.known.Known.TheVariants as knowns
+use Rattle.mol_table_rules.proofs.CellOrder.{slot_same, cell_cmp-total, cell_cmp-IsAntisymmetric}
 use Rattle.mol_renames.specs.Cells.{has, id_at_slot, ids_with}
 
 pub cell_tied : (x y : Cell) → eq_by_cmp cell_cmp x y ≡ true → x ≡ y

@@ -13,11 +13,11 @@ use Rattle.std.specs.Slice.{IsItemAt}
 use denote.Ref.{Bor}
 use Rattle.mol_base.specs.Order.{id_cmp, id_cmp-total}
 use Rattle.mol_base.specs.declared.ident.Id.{Id}
-use Rattle.mol_values.specs.Order.{id_eq}
-use Rattle.mol_table.specs.Program.{cell}
-use Rattle.mol_values.specs.declared.cell.Cell.{Cell}
-use Rattle.mol_values.specs.declared.cell.Slot.TheVariants as slots
-use Rattle.mol_values.proofs.Ties.{id_ties}
+use Rattle.mol_values_types.specs.Order.{id_eq}
+use Rattle.mol_table_rules.specs.Program.{cell}
+use Rattle.mol_values_types.specs.declared.cell.Cell.{Cell}
+use Rattle.mol_values_types.specs.declared.cell.Slot.TheVariants as slots
+use Rattle.mol_values_types.proofs.Ties.{id_ties}
 use Rattle.mol_renames.specs.LastWrites.{write_in, entry_at, place_of, HasLast, name_in, class_named}
 use Rattle.mol_renames.specs.Writes.{Write, last, written, same_cell}
 use Rattle.mol_renames.specs.declared.log.Entry.{Entry}

@@ -6,17 +6,17 @@ use Rattle.std.proofs.Math.Seq.{drop-cons}
 use Rattle.mol_base.specs.declared.ident.Id.{Id}
 use Rattle.std.proofs.lemmas.Bool.{and_parts}
 use Rattle.std.specs.FinMap.{get}
-use Rattle.mol_table.specs.Identities.{IsAscending, AreKnown}
-use Rattle.mol_table.specs.Life.{lives}
-use Rattle.mol_table.proofs.CellOrder.{slot_same}
-use Rattle.mol_table.specs.Program.{Program, value_at}
-use Rattle.mol_table.specs.Rules.{IsProgram}
-use Rattle.mol_values.specs.Slots.{slot_of, has_slot}
-use Rattle.mol_values.specs.declared.known.Known.{Known}
-use Rattle.mol_values.specs.declared.cell.Slot.{Slot}
-use Rattle.mol_values.specs.declared.cell.Slot.TheVariants as slots
-use Rattle.mol_values.specs.declared.value.Value.{Value}
-use Rattle.mol_values.specs.declared.value.Value.TheVariants as values
+use Rattle.mol_table_rules.specs.Identities.{IsAscending, AreKnown}
+use Rattle.mol_table_rules.specs.Life.{lives}
+use Rattle.mol_table_rules.proofs.CellOrder.{slot_same}
+use Rattle.mol_table_rules.specs.Program.{Program, value_at}
+use Rattle.mol_table_rules.specs.Rules.{IsProgram}
+use Rattle.mol_values_types.specs.Slots.{slot_of, has_slot}
+use Rattle.mol_values_types.specs.declared.known.Known.{Known}
+use Rattle.mol_values_types.specs.declared.cell.Slot.{Slot}
+use Rattle.mol_values_types.specs.declared.cell.Slot.TheVariants as slots
+use Rattle.mol_values_types.specs.declared.value.Value.{Value}
+use Rattle.mol_values_types.specs.declared.value.Value.TheVariants as values
 use Rattle.mol_renames.specs.Cells.{has}
 use Rattle.mol_renames.specs.Faults.{Class, class_at, classes_of}
 use Rattle.mol_renames.specs.Texts.{text_at, text_of_value}

@@ -1,9 +1,9 @@
 -- What logs leave of the rows of a base.
 use Rattle.std.proofs.Common.{◌≡◌, List, map, sym, ap, ◌∙◌}
 use Rattle.std.specs.Prelude.{Result, Ok, Err, IfOk, Option}
-use Rattle.mol_table.specs.Program.{Program}
-use Rattle.mol_values.specs.declared.cell.Cell.{Cell}
-use Rattle.mol_values.specs.declared.value.Value.{Value}
+use Rattle.mol_table_rules.specs.Program.{Program}
+use Rattle.mol_values_types.specs.declared.cell.Cell.{Cell}
+use Rattle.mol_values_types.specs.declared.value.Value.{Value}
 use Rattle.mol_renames.specs.ClassFiles.{class_list}
 use Rattle.mol_renames.specs.Faults.{Class, classes_of, same_addresses, faults}
 use Rattle.mol_renames.specs.Merge.{united_in_order, conflicts_in_order}

@@ -8,8 +8,8 @@ use Rattle.mol_base.proofs.Members.{all_among}
 use Rattle.mol_base.specs.Lexical.Characters.{first}
 use Rattle.mol_base.specs.Lexical.Names.{keywords, word_literals}
 use Rattle.mol_base.specs.ReservedWords.{is_reserved, reserved_words}
-use Rattle.mol_values.specs.TokenForms.{is_name, is_dotted}
-use Rattle.mol_values.proofs.AsciiNames.{ascii-name}
+use Rattle.mol_values_types.specs.TokenForms.{is_name, is_dotted}
+use Rattle.mol_values_types.proofs.AsciiNames.{ascii-name}
 use Rattle.mol_renames.specs.Names.{is_upper, is_lower, is_digit, is_class_name, is_segment, is_package}
 
 -- ---- class names

@@ -2,12 +2,12 @@
 use Rattle.std.proofs.Common.{◌≡◌, Bool, true, false, ℕ, List, [], ◌∷◌, ◌∙◌, IsTrue, refl, sym, ap}
 use Rattle.std.specs.Str.{bytes_eq}
 use Rattle.std.proofs.lemmas.Slice.Eq.{bytes_eq-Decides}
-use Rattle.mol_table.specs.Values.{same_value}
+use Rattle.mol_table_rules.specs.Values.{same_value}
 use Rattle.std.specs.Prelude.{None, Some, if◌then◌else◌}
-use Rattle.mol_values.specs.declared.cell.Cell.{Cell}
-use Rattle.mol_values.specs.declared.value.Value.{Value}
-use Rattle.mol_values.specs.declared.value.Value.TheVariants as values
-use Rattle.mol_table.proofs.Values.{same_value-is}
+use Rattle.mol_values_types.specs.declared.cell.Cell.{Cell}
+use Rattle.mol_values_types.specs.declared.value.Value.{Value}
+use Rattle.mol_values_types.specs.declared.value.Value.TheVariants as values
+use Rattle.mol_table_rules.proofs.Values.{same_value-is}
 use Rattle.mol_renames.specs.LastWrites.{name_in, new_name, write_in}
 use Rattle.mol_renames.specs.Merge.{differing}
 use Rattle.mol_renames.specs.declared.conflict.ConflictKind.TheVariants.{Twice}

@@ -6,18 +6,18 @@ use Rattle.std.specs.List.{filter_map, list_any}
 use Rattle.std.specs.FinMap.{entries, keys, get, find, is_sorted, get-entries, get-from_entries, entries_sorted}
 use Rattle.std.specs.FinMap.Entries.{below_all, same_entries}
 use Rattle.mol_base.specs.declared.ident.Id.{Id}
-use Rattle.mol_table.specs.Life.{is_decl_of, lives, lives_as, lives_method, lists}
-use Rattle.mol_values.specs.Order.{cell_cmp}
-use Rattle.mol_table.proofs.CellOrder.{cell_cmp-total, cell_cmp-IsAntisymmetric}
-use Rattle.mol_table.specs.Program.{Program, cell, value_at, is_yes, living_at, params_in, same_id}
-use Rattle.mol_table.specs.Rules.{IsProgram}
-use Rattle.mol_values.specs.declared.cell.Cell.{Cell}
-use Rattle.mol_values.specs.declared.cell.Slot.{Slot}
-use Rattle.mol_values.specs.declared.cell.Slot.TheVariants as slots
-use Rattle.mol_values.specs.declared.known.Known.{Known}
-use Rattle.mol_values.specs.declared.known.Known.TheVariants as knowns
-use Rattle.mol_values.specs.declared.param.Param.{Param}
-use Rattle.mol_values.specs.declared.value.Value.{Value}
+use Rattle.mol_table_rules.specs.Life.{is_decl_of, lives, lives_as, lives_method, lists}
+use Rattle.mol_values_types.specs.Order.{cell_cmp}
+use Rattle.mol_table_rules.proofs.CellOrder.{cell_cmp-total, cell_cmp-IsAntisymmetric}
+use Rattle.mol_table_rules.specs.Program.{Program, cell, value_at, is_yes, living_at, params_in, same_id}
+use Rattle.mol_table_rules.specs.Rules.{IsProgram}
+use Rattle.mol_values_types.specs.declared.cell.Cell.{Cell}
+use Rattle.mol_values_types.specs.declared.cell.Slot.{Slot}
+use Rattle.mol_values_types.specs.declared.cell.Slot.TheVariants as slots
+use Rattle.mol_values_types.specs.declared.known.Known.{Known}
+use Rattle.mol_values_types.specs.declared.known.Known.TheVariants as knowns
+use Rattle.mol_values_types.specs.declared.param.Param.{Param}
+use Rattle.mol_values_types.specs.declared.value.Value.{Value}
 use Rattle.mol_renames.specs.Cells.{has, id_at_slot, ids_with}
 use Rattle.mol_renames.specs.Faults.{text_in, class_at, classes_of}
 use Rattle.mol_renames.specs.Renaming.{IsRenaming, text_or, renamed}

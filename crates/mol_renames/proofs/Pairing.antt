@@ -6,14 +6,14 @@ use Rattle.std.specs.Option.{option_to_list}
 use Rattle.std.specs.FinMap.{keys}
 use Rattle.std.proofs.lemmas.List.{take_more}
 use Rattle.mol_base.specs.declared.ident.Id.{Id}
-use Rattle.mol_table.specs.Identities.{IsAscending, AreKnown}
-use Rattle.mol_table.specs.Life.{lives}
-use Rattle.mol_values.specs.Order.{slot_number}
-use Rattle.mol_table.specs.Program.{Program, cell}
-use Rattle.mol_table.specs.Rules.{IsProgram}
-use Rattle.mol_values.specs.declared.cell.Cell.{Cell}
-use Rattle.mol_values.specs.declared.cell.Slot.TheVariants as slots
-use Rattle.mol_table.proofs.CellOrder.{slot_same}
+use Rattle.mol_table_rules.specs.Identities.{IsAscending, AreKnown}
+use Rattle.mol_table_rules.specs.Life.{lives}
+use Rattle.mol_values_types.specs.Order.{slot_number}
+use Rattle.mol_table_rules.specs.Program.{Program, cell}
+use Rattle.mol_table_rules.specs.Rules.{IsProgram}
+use Rattle.mol_values_types.specs.declared.cell.Cell.{Cell}
+use Rattle.mol_values_types.specs.declared.cell.Slot.TheVariants as slots
+use Rattle.mol_table_rules.proofs.CellOrder.{slot_same}
 use Rattle.mol_renames.specs.Cells.{has, id_at_slot}
 use Rattle.mol_renames.specs.Pairing.{named_twice}
 use Rattle.mol_renames.specs.Merge.{differing, twice_at, pairs_in_order}

@@ -7,8 +7,8 @@ use Rattle.std.specs.declared.cmp.Ordering.{Ordering}
 use Rattle.std.specs.declared.cmp.Ordering.TheVariants.{Less, Equal, Greater}
 use Rattle.std.specs.Cmp.Lexicographic.{nat_list_cmp_total}
 use Rattle.mol_base.specs.Order.{tag_cmp, tag_cmp-IsAntisymmetric}
-use Rattle.mol_table.specs.Program.{Program}
-use Rattle.mol_values.specs.declared.cell.Cell.{Cell}
+use Rattle.mol_table_rules.specs.Program.{Program}
+use Rattle.mol_values_types.specs.declared.cell.Cell.{Cell}
 use Rattle.mol_renames.specs.Merge.{first_tag, lesser, greater, conflicts_in_order, united_in_order, merged_in_order}
 use Rattle.mol_renames.specs.Symmetric.{IsSymmetric}
 use Rattle.mol_renames.specs.Writes.{Write, last, value_by, after, overlaid}

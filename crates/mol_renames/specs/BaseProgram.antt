@@ -1,11 +1,11 @@
 -- The program of the classes of a base.
 use Rattle.std.specs.Prelude.{ℕ, ◌+◌, Bool, List, [], ◌∷◌, None}
 use Rattle.mol_base.specs.declared.ident.Id.{Id}
-use Rattle.mol_table.specs.Program.{Program, nothing}
-use Rattle.mol_table.specs.Writes.{with_entities}
-use Rattle.mol_table.specs.declared.entity.NewEntity.{NewEntity}
-use Rattle.mol_values.specs.declared.kind.Kind.TheVariants as kinds
-use Rattle.mol_values.specs.declared.value.Value.TheVariants as values
+use Rattle.mol_table_rules.specs.Program.{Program, nothing}
+use Rattle.mol_table_rules.specs.Writes.{with_entities}
+use Rattle.mol_table_rules.specs.declared.entity.NewEntity.{NewEntity}
+use Rattle.mol_values_types.specs.declared.kind.Kind.TheVariants as kinds
+use Rattle.mol_values_types.specs.declared.value.Value.TheVariants as values
 use Rattle.mol_renames.specs.ClassFiles.{Address}
 
 -- the identity of this number in a base

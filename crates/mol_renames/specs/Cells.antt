@@ -3,10 +3,10 @@ use Rattle.std.specs.Prelude.{◌==◌, Bool, List, Option, None, Some, is_some,
 use Rattle.std.specs.List.{filter_map}
 use Rattle.std.specs.FinMap.{keys}
 use Rattle.mol_base.specs.declared.ident.Id.{Id}
-use Rattle.mol_values.specs.Order.{slot_number}
-use Rattle.mol_table.specs.Program.{Program, value_at}
-use Rattle.mol_values.specs.declared.cell.Cell.{Cell}
-use Rattle.mol_values.specs.declared.cell.Slot.{Slot}
+use Rattle.mol_values_types.specs.Order.{slot_number}
+use Rattle.mol_table_rules.specs.Program.{Program, value_at}
+use Rattle.mol_values_types.specs.declared.cell.Cell.{Cell}
+use Rattle.mol_values_types.specs.declared.cell.Slot.{Slot}
 
 -- whether a program has the cell
 abbrev pub has : Program → Id → Slot → Bool

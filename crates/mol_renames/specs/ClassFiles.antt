@@ -7,7 +7,7 @@ use Rattle.std.specs.FinMap.{FinMap, entries, from_entries}
 use Rattle.std.specs.Fmt.{decimal}
 use Rattle.sha2.specs.Sha256.{sha256}
 use Rattle.mol_base.specs.Paths.{path_of}
-use Rattle.mol_table.specs.Program.{Program}
+use Rattle.mol_table_rules.specs.Program.{Program}
 use Rattle.mol_base.specs.Files.{FilePair}
 use Rattle.mol_renames.specs.Names.{is_class_name, is_package}
 use Rattle.mol_renames.specs.Faults.{Class, classes_of}

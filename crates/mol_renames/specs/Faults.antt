@@ -2,11 +2,11 @@
 use Rattle.std.specs.Prelude.{◌≡◌, ℕ, Bool, ◌&&◌, nat_eq, List, [], ◌∷◌, ◌++◌, map, filter, Option, Some}
 use Rattle.std.specs.Cmp.Lexicographic.{pointwise}
 use Rattle.mol_base.specs.declared.ident.Id.{Id}
-use Rattle.mol_table.specs.Life.{lives}
-use Rattle.mol_table.specs.Program.{Program, value_at}
-use Rattle.mol_values.specs.declared.cell.Slot.TheVariants as slots
-use Rattle.mol_values.specs.declared.value.Value.{Value}
-use Rattle.mol_values.specs.declared.value.Value.TheVariants.{Package, Name}
+use Rattle.mol_table_rules.specs.Life.{lives}
+use Rattle.mol_table_rules.specs.Program.{Program, value_at}
+use Rattle.mol_values_types.specs.declared.cell.Slot.TheVariants as slots
+use Rattle.mol_values_types.specs.declared.value.Value.{Value}
+use Rattle.mol_values_types.specs.declared.value.Value.TheVariants.{Package, Name}
 use Rattle.mol_renames.specs.Cells.{ids_with}
 use Rattle.mol_renames.specs.declared.fault.Fault.{Fault}
 use Rattle.mol_renames.specs.declared.fault.Fault.TheVariants.{SameAddress}

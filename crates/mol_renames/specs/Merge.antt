@@ -8,11 +8,11 @@ use Rattle.std.specs.declared.cmp.Ordering.TheVariants.{Less, Equal, Greater}
 use Rattle.std.specs.FinMap.{keys}
 use Rattle.mol_base.specs.Order.{tag_cmp, stamp_cmp}
 use Rattle.mol_base.specs.declared.ident.Stamp.{Stamp}
-use Rattle.mol_table.specs.Life.{lives}
-use Rattle.mol_table.specs.Program.{Program, cell}
-use Rattle.mol_table.specs.Values.{same_value}
-use Rattle.mol_values.specs.declared.cell.Cell.{Cell}
-use Rattle.mol_values.specs.declared.cell.Slot.TheVariants as slots
+use Rattle.mol_table_rules.specs.Life.{lives}
+use Rattle.mol_table_rules.specs.Program.{Program, cell}
+use Rattle.mol_table_rules.specs.Values.{same_value}
+use Rattle.mol_values_types.specs.declared.cell.Cell.{Cell}
+use Rattle.mol_values_types.specs.declared.cell.Slot.TheVariants as slots
 use Rattle.mol_renames.specs.Faults.{faults}
 use Rattle.mol_renames.specs.Writes.{Write, last, value_by_both, after, overlaid}
 use Rattle.mol_renames.specs.declared.conflict.Conflict.{Conflict}

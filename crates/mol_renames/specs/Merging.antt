@@ -1,7 +1,7 @@
 -- What a merge of two logs answers.
 use Rattle.std.specs.Prelude.{◌≡◌, ◌≢◌, ⊤, ℕ, List, [], Option, None, Some, slice_get}
-use Rattle.mol_table.specs.Program.{Program}
-use Rattle.mol_table.specs.Rules.{IsProgram}
+use Rattle.mol_table_rules.specs.Program.{Program}
+use Rattle.mol_table_rules.specs.Rules.{IsProgram}
 use Rattle.mol_renames.specs.ClassFiles.{class_list, file_list}
 use Rattle.mol_renames.specs.Faults.{Class, classes_of, faults}
 use Rattle.mol_renames.specs.Merge.{conflicts, conflicts_in_order, united, united_in_order, merged_log}

@@ -1,10 +1,10 @@
 -- What new names make of a class.
 use Rattle.std.specs.Prelude.{◌≡◌, ℕ, List, map, Option, None, Some}
-use Rattle.mol_table.specs.Program.{cell}
-use Rattle.mol_values.specs.Slots.{slot_of}
-use Rattle.mol_values.specs.declared.cell.Cell.{Cell}
-use Rattle.mol_values.specs.declared.cell.Slot.TheVariants as slots
-use Rattle.mol_values.specs.declared.value.Value.{Value}
+use Rattle.mol_table_rules.specs.Program.{cell}
+use Rattle.mol_values_types.specs.Slots.{slot_of}
+use Rattle.mol_values_types.specs.declared.cell.Cell.{Cell}
+use Rattle.mol_values_types.specs.declared.cell.Slot.TheVariants as slots
+use Rattle.mol_values_types.specs.declared.value.Value.{Value}
 use Rattle.mol_renames.specs.declared.log.Entry.{Entry}
 use Rattle.mol_renames.specs.Faults.{Class, text_in}
 use Rattle.mol_renames.specs.Writes.{value_by_both}

@@ -1,6 +1,6 @@
 -- Two logs in either order.
 use Rattle.std.specs.Prelude.{◌≡◌}
-use Rattle.mol_table.specs.Program.{Program}
+use Rattle.mol_table_rules.specs.Program.{Program}
 use Rattle.mol_renames.specs.Merge.{conflicts, united, merged_log}
 use Rattle.mol_renames.specs.declared.log.Log.{Log}
 

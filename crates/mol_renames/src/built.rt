@@ -10,8 +10,9 @@ ghost use Rattle.mol_base.specs.Files.{file_pairs};
 
 use crate::class_file::{Address, address_in};
 use mol_base::{File, Id, List, OutOfMemory, Tag, Text};
-use mol_table::{NewEntity, Table};
-use mol_values::{Kind, Notes, Value, Words};
+use mol_table::Table;
+use mol_table_rules::NewEntity;
+use mol_values_types::{Kind, Notes, Value, Words};
 use std::alloc::{AllocFailed, Global};
 
 /// Why the files of a base are no program.

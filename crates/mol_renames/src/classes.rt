@@ -1,7 +1,7 @@
 //! The living classes of a table.
 ghost use Rattle.std.specs.Prelude.{◌≡◌, IfOk, IfSome, IsSome, IsTrue, option_copied};
-ghost use Rattle.mol_table.specs.Rules.{IsProgram};
-ghost use Rattle.mol_values.specs.declared.cell.Slot.TheVariants as slots;
+ghost use Rattle.mol_table_rules.specs.Rules.{IsProgram};
+ghost use Rattle.mol_values_types.specs.declared.cell.Slot.TheVariants as slots;
 ghost use Rattle.mol_renames.specs.Cells.{has};
 ghost use Rattle.mol_renames.specs.Faults.{class_at, classes_of};
 ghost use Rattle.mol_renames.specs.Rows.{class_in, classes_in};
@@ -10,7 +10,7 @@ ghost use Rattle.mol_renames.specs.Texts.{text_at, text_of_value};
 use crate::rows::Row;
 use mol_base::{Id, OutOfMemory, Text};
 use mol_table::Table;
-use mol_values::{Cell, Slot, Value};
+use mol_values_types::{Cell, Slot, Value};
 use std::alloc::Global;
 
 /// The living classes of a program, ascending by identity, each with its package and its name. The time is that of

@@ -1,7 +1,7 @@
 //! Conflicts of two logs.
 use crate::Fault;
 use mol_base::{List, Stamp};
-use mol_values::{Cell, Value};
+use mol_values_types::{Cell, Value};
 
 /// How two logs conflict.
 #[derive(Drop)]

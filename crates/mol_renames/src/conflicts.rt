@@ -1,8 +1,8 @@
 //! The conflicts of two logs over one base.
 ghost use Rattle.std.specs.Prelude.{◌≡◌, ◌++◌, IfOk, OnOk, Some, map};
 ghost use Rattle.std.specs.Option.{option_to_list};
-ghost use Rattle.mol_table.specs.Program.{cell};
-ghost use Rattle.mol_values.specs.declared.cell.Slot.TheVariants as slots;
+ghost use Rattle.mol_table_rules.specs.Program.{cell};
+ghost use Rattle.mol_values_types.specs.declared.cell.Slot.TheVariants as slots;
 ghost use Rattle.mol_renames.specs.Faults.{faults as faults_of};
 ghost use Rattle.mol_renames.specs.LastWrites.{name_in, write_in};
 ghost use Rattle.mol_renames.specs.Pairing.{named_twice};
@@ -13,7 +13,7 @@ use crate::stamps::stamps_of;
 use crate::{Conflict, ConflictKind, Entry, Fault};
 use mol_base::{Id, List, OutOfMemory};
 use mol_table::Table;
-use mol_values::{Cell, Slot, Value};
+use mol_values_types::{Cell, Slot, Value};
 use std::alloc::Global;
 
 /// The conflicts of the logs: those of pairs, or else the faults of what both leave together, which are

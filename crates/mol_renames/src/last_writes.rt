@@ -1,7 +1,7 @@
 //! The last write of each class's name among the entries of a log.
 ghost use Rattle.std.specs.Prelude.{◌≡◌, IfOk, option_copied, option_map};
-ghost use Rattle.mol_table.specs.Program.{cell};
-ghost use Rattle.mol_values.specs.declared.cell.Slot.TheVariants as slots;
+ghost use Rattle.mol_table_rules.specs.Program.{cell};
+ghost use Rattle.mol_values_types.specs.declared.cell.Slot.TheVariants as slots;
 ghost use Rattle.mol_renames.specs.Writes.{last};
 ghost use Rattle.mol_renames.specs.LastWrites.{write_in};
 

@@ -1,6 +1,6 @@
 //! The log of a merge.
 ghost use Rattle.std.specs.Prelude.{◌≡◌, ◌++◌, IfOk};
-ghost use Rattle.mol_table.specs.Program.{Program};
+ghost use Rattle.mol_table_rules.specs.Program.{Program};
 ghost use Rattle.mol_renames.specs.Merge.{merged_in_order, united_in_order};
 ghost use Rattle.mol_renames.specs.Writes.{after};
 

@@ -3,11 +3,11 @@ use Rattle.std.proofs.Common.{◌≡◌, ℕ, List, ◌∷◌, ◌++◌, Option,
 use Rattle.std.specs.Fmt.{decimal}
 use Rattle.mol_base.specs.declared.ident.Id.{Id}
 use Rattle.mol_report.specs.Labels.{address_text, owner_text, declared_name}
-use Rattle.mol_table.specs.Faults.{decl_address}
-use Rattle.mol_table.specs.Program.{Program, owner_at, params_at}
-use Rattle.mol_values.specs.declared.kind.MethodKind.TheVariants.{Constructor, Instance, Static}
-use Rattle.mol_values.specs.declared.known.Known.{Known}
-use Rattle.mol_values.specs.declared.known.Known.TheVariants as knowns
+use Rattle.mol_table_rules.specs.Faults.{decl_address}
+use Rattle.mol_table_rules.specs.Program.{Program, owner_at, params_at}
+use Rattle.mol_values_types.specs.declared.kind.MethodKind.TheVariants.{Constructor, Instance, Static}
+use Rattle.mol_values_types.specs.declared.known.Known.{Known}
+use Rattle.mol_values_types.specs.declared.known.Known.TheVariants as knowns
 
 module _ (base : Program) (decl method : Id) where
   abbrev declaration_text : Option Known → List ℕ

@@ -4,7 +4,7 @@ use Rattle.std.specs.Fmt.{decimal}
 use Rattle.mol_base.specs.declared.ident.Id.{Id}
 use Rattle.mol_report.specs.Labels.{id_text, cell_text}
 use Rattle.mol_spell_rules.specs.FaultList.{FaultTarget, entity, default_of, local_of, outside_of, Fault, same_address, false_override, apart, outside_name, missing, misread, local_clash, package_is_class}
-use Rattle.mol_table.specs.Program.{Program}
+use Rattle.mol_table_rules.specs.Program.{Program}
 
 -- two identities
 abbrev pub pair_text : Program → Id → Id → List ℕ

@@ -6,16 +6,16 @@ use Rattle.std.specs.Option.{option_map_or}
 use Rattle.mol_base.specs.Identity.{spelled_id}
 use Rattle.mol_base.specs.declared.ident.Id.{Id}
 use Rattle.mol_resolve_rules.specs.StaticTypes.{present_param}
-use Rattle.mol_table.specs.Faults.{Address, class_address, field_address, method_address, constructor_address, address}
-use Rattle.mol_table.specs.Program.{Program, package_at, name_at}
-use Rattle.mol_table.specs.Renumber.{topmost}
-use Rattle.mol_values.specs.declared.cell.Cell.{Cell}
-use Rattle.mol_values.specs.declared.cell.Slot.{Slot}
-use Rattle.mol_values.specs.declared.cell.Slot.TheVariants as slots
-use Rattle.mol_values.specs.declared.kind.MethodKind.TheVariants.{Constructor}
-use Rattle.mol_values.specs.declared.known.Known.{Known}
-use Rattle.mol_values.specs.declared.known.Known.TheVariants as knowns
-use Rattle.mol_values.specs.declared.param.Param.{Param}
+use Rattle.mol_table_rules.specs.Faults.{Address, class_address, field_address, method_address, constructor_address, address}
+use Rattle.mol_table_rules.specs.Program.{Program, package_at, name_at}
+use Rattle.mol_table_rules.specs.Renumber.{topmost}
+use Rattle.mol_values_types.specs.declared.cell.Cell.{Cell}
+use Rattle.mol_values_types.specs.declared.cell.Slot.{Slot}
+use Rattle.mol_values_types.specs.declared.cell.Slot.TheVariants as slots
+use Rattle.mol_values_types.specs.declared.kind.MethodKind.TheVariants.{Constructor}
+use Rattle.mol_values_types.specs.declared.known.Known.{Known}
+use Rattle.mol_values_types.specs.declared.known.Known.TheVariants as knowns
+use Rattle.mol_values_types.specs.declared.param.Param.{Param}
 
 -- the full name of a class: its package, a dot and its name
 abbrev pub class_text : Program → Id → List ℕ

@@ -3,13 +3,13 @@ ghost use Rattle.std.specs.Prelude.{◌≡◌, ◌++◌, OnOk};
 ghost use Rattle.std.specs.FinMap as map;
 ghost use Rattle.std.specs.Fmt.{decimal};
 ghost use Rattle.mol_report.specs.Labels.{address_text, declared_name, owner_text};
-ghost use Rattle.mol_table.specs.Faults.{class_address, decl_address, field_address};
-ghost use Rattle.mol_table.specs.Program.{name_at, owner_at, package_at};
+ghost use Rattle.mol_table_rules.specs.Faults.{class_address, decl_address, field_address};
+ghost use Rattle.mol_table_rules.specs.Program.{name_at, owner_at, package_at};
 
 use mol_base::{Id, OutOfMemory};
 use mol_scope_classes::{name_of, owner_of, package_of, params_of};
 use mol_table::Table;
-use mol_values::{Known, MethodKind};
+use mol_values_types::{Known, MethodKind};
 use std::alloc::Global;
 
 /// Appends the full name of a class.

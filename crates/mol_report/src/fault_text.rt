@@ -10,7 +10,7 @@ use crate::labels::Labels;
 use mol_base::{Id, List, OutOfMemory, Text};
 use mol_faults_rules::{Fault, Target};
 use mol_table::Table;
-use mol_values::Cell;
+use mol_values_types::Cell;
 use std::alloc::Global;
 
 /// The text of a fault, without a line end: its name in lower-case words joined by `-`, and its fields, a space before each. An identity

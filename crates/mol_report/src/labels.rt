@@ -3,8 +3,8 @@ ghost use Rattle.std.specs.Prelude.{◌≡◌, ◌++◌, IfOk, OnOk, Some, optio
 ghost use Rattle.std.specs.FinMap as map;
 ghost use Rattle.std.specs.List.{find};
 ghost use Rattle.mol_report.specs.Labels.{added, cell_text, entity_label, id_text, label, method_label, param_name};
-ghost use Rattle.mol_values.specs.Order.{id_eq};
-ghost use Rattle.mol_values.specs.declared.known.Known.TheVariants as knowns;
+ghost use Rattle.mol_values_types.specs.Order.{id_eq};
+ghost use Rattle.mol_values_types.specs.declared.known.Known.TheVariants as knowns;
 
 use crate::addresses::{push_class, push_declaration, push_field};
 use crate::slots::slot_word;
@@ -12,7 +12,7 @@ use mol_base::{Id, OutOfMemory};
 use mol_scope_classes::params_of;
 use mol_scope_members::Topmost;
 use mol_table::Table;
-use mol_values::{Cell, Known, Param};
+use mol_values_types::{Cell, Known, Param};
 use std::alloc::Global;
 use std::marker::Model;
 
@@ -26,11 +26,11 @@ pub(crate) struct Labels<'a> {
 impl<'a> Model for Labels<'a> {
     ghost use Rattle.std.specs.Prelude.{◌≡◌};
     ghost use Rattle.mol_base.specs.contracts.ident.Id as id;
-    ghost use Rattle.mol_table.specs.Maps.{program_code};
-    ghost use Rattle.mol_table.specs.Program.{Program};
-    ghost use Rattle.mol_values.specs.contracts.cell.Cell as cell;
-    ghost use Rattle.mol_values.specs.contracts.known.Known as what;
-    ghost use Rattle.mol_values.specs.contracts.value.Value as value;
+    ghost use Rattle.mol_table_rules.specs.Program.{program_code};
+    ghost use Rattle.mol_table_rules.specs.Program.{Program};
+    ghost use Rattle.mol_values_types.specs.contracts.cell.Cell as cell;
+    ghost use Rattle.mol_values_types.specs.contracts.known.Known as what;
+    ghost use Rattle.mol_values_types.specs.contracts.value.Value as value;
 
     ghost Value = { Program };
 

@@ -2,7 +2,7 @@
 ghost use Rattle.std.specs.Prelude.{◌≡◌};
 ghost use Rattle.mol_report.specs.Labels.{slot_text};
 
-use mol_values::Slot;
+use mol_values_types::Slot;
 
 /// The word of a slot.
 pub(crate) fn slot_word(slot: &Slot) -> &'static str

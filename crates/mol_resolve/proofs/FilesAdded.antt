@@ -10,7 +10,7 @@ use Rattle.mol_resolve.specs.declared.entities.Entities.{Entities}
 use Rattle.mol_resolve_rules.specs.Files.{File, Files, files_view}
 use Rattle.mol_resolve_rules.specs.Numbering.{Numbered, numbered_class, numbered_member, numbered_at_key, by_path, member_keys}
 use Rattle.mol_resolve_rules.specs.ReadAs.{HasNoFault}
-use Rattle.mol_table.specs.declared.entity.NewEntity.{NewEntity}
+use Rattle.mol_table_rules.specs.declared.entity.NewEntity.{NewEntity}
 
 -- entities after others, and further ones
 added-twice : (files : Files) (before middle after : List NewEntity) (items more : List Numbered)

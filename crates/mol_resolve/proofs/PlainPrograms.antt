@@ -6,9 +6,9 @@ use Rattle.mol_resolve_laws.specs.Entities.{plain_entities}
 use Rattle.mol_resolve_laws.specs.Laws.{IsTree}
 use Rattle.mol_resolve_rules.specs.Files.{Files}
 use Rattle.mol_resolve_rules.specs.ReadAs.{FilesReadAs, HasNoFault, IsPlain}
-use Rattle.mol_table.specs.Program.{Program, nothing}
-use Rattle.mol_table.specs.Writes.{AreNew, with_entities}
-use Rattle.mol_table.specs.declared.entity.NewEntity.{NewEntity}
+use Rattle.mol_table_rules.specs.Program.{Program, nothing}
+use Rattle.mol_table_rules.specs.Writes.{AreNew, with_entities}
+use Rattle.mol_table_rules.specs.declared.entity.NewEntity.{NewEntity}
 
 module _ (files : Files) (entities : List NewEntity) (no_fault : HasNoFault files) (trees : All IsTree files)
     (are : entities ≡ plain_entities files) where

@@ -3,7 +3,7 @@ use Rattle.std.proofs.Common.{◌≡◌, ℕ, List, [], ◌∷◌, ◌++◌, map
 use Rattle.std.specs.List.{cons_option}
 use Rattle.mol_resolve_laws.specs.Entities.{entity_of, plain_entities}
 use Rattle.mol_resolve.specs.Added.{of_items}
-use Rattle.mol_table.specs.declared.entity.NewEntity.{NewEntity}
+use Rattle.mol_table_rules.specs.declared.entity.NewEntity.{NewEntity}
 use Rattle.jav_names.specs.UnitViews.{numbered}
 use Rattle.mol_resolve_rules.specs.Files.{File, Files, files_view}
 use Rattle.mol_resolve_rules.specs.Numbering.{numbered_class, numbered_member, numbered_at_key, member_keys, by_path}

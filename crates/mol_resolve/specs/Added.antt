@@ -6,7 +6,7 @@ use Rattle.mol_resolve_laws.specs.Entities.{entity_of}
 use Rattle.mol_resolve_rules.specs.Files.{File, Files, files_view}
 use Rattle.mol_resolve_rules.specs.Numbering.{Numbered, numbered_class, numbered_member, numbered_at_key, member_keys}
 use Rattle.mol_resolve_rules.specs.ReadAs.{HasNoFault}
-use Rattle.mol_table.specs.declared.entity.NewEntity.{NewEntity}
+use Rattle.mol_table_rules.specs.declared.entity.NewEntity.{NewEntity}
 use Rattle.mol_resolve.specs.declared.entities.Entities.{Entities}
 
 -- those of what has a number

@@ -4,7 +4,7 @@ ghost use Rattle.std.specs.Option.{option_and_then, option_to_list};
 
 use mol_base::{List, OutOfMemory};
 use mol_resolve_entities::MemberEntities;
-use mol_table::NewEntity;
+use mol_table_rules::NewEntity;
 use std::alloc::Global;
 
 /// The entities of files that were read: their classes, their members, and the methods whose topmost declarations these are, each in the

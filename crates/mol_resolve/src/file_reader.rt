@@ -26,8 +26,8 @@ use mol_resolve_classes::{HeaderFaults, Related};
 use mol_resolve_entities::class_entity;
 use mol_resolve_faults::{FirstFault, ResolveFault};
 use mol_resolve_members::{Finder, Members, Numbers};
-use mol_table::NewEntity;
-use mol_values::IType;
+use mol_table_rules::NewEntity;
+use mol_values_types::IType;
 use std::alloc::Global;
 use std::marker::Model;
 

@@ -1,4 +1,5 @@
-//! What source files mean: the program that they are, with each name in them by identity, or the first fault for which they are none.
+//! What source files mean: the program that they are, with each name in them by identity, or the first fault for which they are none;
+//! with the entities of each member, and of the files in their order.
 #![tactic(auto)]
 
 mod entities;

@@ -6,15 +6,16 @@ ghost use Rattle.mol_resolve_laws.specs.Laws.{IsTree};
 ghost use Rattle.mol_resolve.specs.Reported.{IsReported};
 ghost use Rattle.mol_resolve_members.specs.sources.Sources.{files_of};
 ghost use Rattle.mol_resolve_rules.specs.ReadAs.{FilesReadAs, HasNoFault, IsPlain};
-ghost use Rattle.mol_table.specs.Program.{nothing};
-ghost use Rattle.mol_table.specs.Writes.{AreNew, with_entities};
+ghost use Rattle.mol_table_rules.specs.Program.{nothing};
+ghost use Rattle.mol_table_rules.specs.Writes.{AreNew, with_entities};
 
 use crate::file_reader::FileReader;
 use jav_scope::{Scope, SourceUnit};
 use mol_base::{List, OutOfMemory};
 use mol_resolve_faults::ResolveFault;
 use mol_resolve_members::{Members, Numbers, by_path};
-use mol_table::{NewEntity, Table};
+use mol_table::Table;
+use mol_table_rules::NewEntity;
 use std::alloc::Global;
 
 /// The program that source files read as, with each name in them by identity (JLS 6, 7, 8, 15): the one table in plain form that has what

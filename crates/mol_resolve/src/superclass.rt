@@ -13,7 +13,7 @@ use mol_base::OutOfMemory;
 use mol_resolve_faults::FirstFault;
 use mol_resolve_names::read_type;
 use mol_resolve_readings::ReadType;
-use mol_values::IType;
+use mol_values_types::IType;
 
 impl FileReader<'_> {
     /// What the class of the file of this number extends, if it extends something (JLS 8.1.4). Outer `None`: its name reads as nothing,

@@ -1,14 +1,14 @@
 //! Classes as entities.
 ghost use Rattle.std.specs.Prelude.{◌≡◌, ◌∷◌, [], true, IfOk};
 ghost use Rattle.mol_resolve_entities.specs.Parts.{class_entity, class_notes, words_value};
-ghost use Rattle.mol_values.specs.declared.kind.Kind.TheVariants as kinds;
-ghost use Rattle.mol_values.specs.declared.value.Value.TheVariants as values;
+ghost use Rattle.mol_values_types.specs.declared.kind.Kind.TheVariants as kinds;
+ghost use Rattle.mol_values_types.specs.declared.value.Value.TheVariants as values;
 
 use crate::words::words_value;
 use jav_tree::Unit;
 use mol_base::{Id, List, OutOfMemory};
-use mol_table::NewEntity;
-use mol_values::{IType, Kind, Notes, Value, copy_texts};
+use mol_table_rules::NewEntity;
+use mol_values_types::{IType, Kind, Notes, Value, copy_texts};
 use std::alloc::Global;
 
 /// What the cells of a class hold that its file says word by word.

@@ -1,13 +1,13 @@
 //! Declarations of methods and constructors as entities.
 ghost use Rattle.std.specs.Prelude.{◌≡◌, ◌∷◌, [], true, IfOk};
 ghost use Rattle.mol_resolve_entities.specs.Parts.{declaration_entity};
-ghost use Rattle.mol_values.specs.declared.kind.Kind.TheVariants as kinds;
-ghost use Rattle.mol_values.specs.declared.value.Value.TheVariants as values;
+ghost use Rattle.mol_values_types.specs.declared.kind.Kind.TheVariants as kinds;
+ghost use Rattle.mol_values_types.specs.declared.value.Value.TheVariants as values;
 
 use crate::words::Front;
 use mol_base::{Id, List, OutOfMemory, Text};
-use mol_table::NewEntity;
-use mol_values::{IBody, Kind, Value};
+use mol_table_rules::NewEntity;
+use mol_values_types::{IBody, Kind, Value};
 use std::alloc::Global;
 
 /// A declaration by its identity and those of its class and its method, with its modifiers, the comments before it and its body, which

@@ -1,15 +1,15 @@
 //! Fields as entities.
 ghost use Rattle.std.specs.Prelude.{◌≡◌, IfOk, Option};
 ghost use Rattle.mol_resolve_entities.specs.Parts.{field_entity};
-ghost use Rattle.mol_values.specs.declared.iexpr.IExpr.{IExpr};
-ghost use Rattle.mol_values.specs.declared.itype.IType.{IType};
-ghost use Rattle.mol_values.specs.declared.value.Value.TheVariants as values;
+ghost use Rattle.mol_values_types.specs.declared.iexpr.IExpr.{IExpr};
+ghost use Rattle.mol_values_types.specs.declared.itype.IType.{IType};
+ghost use Rattle.mol_values_types.specs.declared.value.Value.TheVariants as values;
 
 use crate::words::Front;
 use jav_tree::Field;
 use mol_base::{Boxed, Id, List, OutOfMemory};
-use mol_table::NewEntity;
-use mol_values::{IExpr, IType, Kind, Value};
+use mol_table_rules::NewEntity;
+use mol_values_types::{IExpr, IType, Kind, Value};
 use std::alloc::Global;
 
 /// A field by its identity and that of its class, with its type and its first value, if it has one. The time is linear in its comments

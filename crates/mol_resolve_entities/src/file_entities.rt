@@ -1,7 +1,7 @@
 //! Classes and members of source files as they are read, beside the entities and the faults that the definitions list.
 //!
-//! The definitions stand in `specs/`, and the contracts of the crates above cite them. The call here computes nothing: it carries the law
-//! of the definitions.
+//! The definitions stand in `specs/file_entities/`, and the contracts of the crates above cite them. The call here computes nothing:
+//! it carries the law of the definitions.
 
 ghost use Rattle.mol_resolve_entities.specs.file_entities.EntitiesRead.{EntitiesRead};
 

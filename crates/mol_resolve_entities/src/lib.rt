@@ -1,4 +1,5 @@
-//! The entities of what stands in source files, made of the parts that are read of them, and what is told of lists of parameters.
+//! The entities of classes and members of source files, made of the parts that are read of them: they are those that the definitions
+//! list, and repeated parameters are faults.
 #![tactic(auto)]
 
 mod class;

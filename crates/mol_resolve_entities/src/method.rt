@@ -2,13 +2,13 @@
 ghost use Rattle.std.specs.Prelude.{◌≡◌, ◌∷◌, [], IfOk};
 ghost use Rattle.jav_names.specs.Members.{is_object_method};
 ghost use Rattle.mol_resolve_entities.specs.Parts.{method_entity};
-ghost use Rattle.mol_values.specs.declared.kind.Kind.TheVariants as kinds;
-ghost use Rattle.mol_values.specs.declared.value.Value.TheVariants as values;
+ghost use Rattle.mol_values_types.specs.declared.kind.Kind.TheVariants as kinds;
+ghost use Rattle.mol_values_types.specs.declared.value.Value.TheVariants as values;
 
 use jav_scope::is_object_method;
 use mol_base::{Id, List, OutOfMemory, Text, number_of};
-use mol_table::NewEntity;
-use mol_values::{IType, Kind, MethodKind, Param, Value};
+use mol_table_rules::NewEntity;
+use mol_values_types::{IType, Kind, MethodKind, Param, Value};
 use std::alloc::Global;
 
 /// The name of a method, and whether it is fixed.

@@ -5,7 +5,7 @@ ghost use Rattle.mol_resolve_rules.specs.Expected.{filler_of, listed};
 
 use jav_tree::Param as NamedParam;
 use mol_base::{Id, OutOfMemory, Text};
-use mol_values::{IType, Param};
+use mol_values_types::{IType, Param};
 use std::alloc::Global;
 
 /// A parameter by its identity, with its type as it is read. `Err` is want of memory.

@@ -3,7 +3,7 @@ ghost use Rattle.std.specs.Prelude.{◌≡◌, IfOk};
 ghost use Rattle.mol_resolve_entities.specs.Parts.{words_value, front_value};
 
 use mol_base::{List, OutOfMemory, Text};
-use mol_values::{Notes, Value, Words, copy_texts};
+use mol_values_types::{Notes, Value, Words, copy_texts};
 use std::alloc::Global;
 
 /// What stands before a member: its modifiers and comments.

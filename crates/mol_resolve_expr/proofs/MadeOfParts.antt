@@ -18,8 +18,8 @@ use Rattle.mol_resolve_rules.specs.Outcomes.{TreeFault, Outcome, mapped, given, 
 use Rattle.mol_resolve_rules.specs.Readers.{Reader}
 use Rattle.mol_resolve_rules.specs.ReadTrees.{Meant, Reading, reading, alone, meant, arrays, values_of, index_meant}
 use Rattle.mol_resolve_rules.specs.ReadTypes.{ReadType}
-use Rattle.mol_values.specs.declared.iexpr.IExpr.{IExpr}
-use Rattle.mol_values.specs.declared.iexpr.IExpr.TheVariants as exprs
+use Rattle.mol_values_types.specs.declared.iexpr.IExpr.{IExpr}
+use Rattle.mol_values_types.specs.declared.iexpr.IExpr.TheVariants as exprs
 
 one-more : (values : Option (List IExpr)) (value : Option (Meant ℕ))
     → option_map spec.one_more (option_zip values value)

@@ -14,7 +14,7 @@ use Rattle.mol_resolve_rules.specs.Locals.{Locals}
 use Rattle.mol_resolve_rules.specs.Outcomes.{Outcome, silent}
 use Rattle.mol_resolve_rules.specs.Readers.{Reader}
 use Rattle.mol_resolve_rules.specs.ReadTrees.{Meant, Mode, Reading, whole_path, followers, path_of, reading, alone, values_of, dot_meant, call_meant, choice, node_meant}
-use Rattle.mol_values.specs.declared.iexpr.IExpr.{IExpr}
+use Rattle.mol_values_types.specs.declared.iexpr.IExpr.{IExpr}
 
 -- an expression of one level, of how its parts read
 abbrev pub Node : Type 0

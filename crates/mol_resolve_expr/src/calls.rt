@@ -9,7 +9,7 @@ ghost use Rattle.mol_resolve_readings.specs.reads.Reads.{Reads, names_of};
 ghost use Rattle.mol_resolve_rules.specs.Outcomes.{Outcome, TreeFault};
 ghost use Rattle.mol_resolve_rules.specs.ReadTrees as trees;
 ghost use Rattle.mol_resolve_rules.specs.ReadTrees.{call_meant, no_path, reading};
-ghost use Rattle.mol_values.specs.declared.iexpr.IExpr as exprs;
+ghost use Rattle.mol_values_types.specs.declared.iexpr.IExpr as exprs;
 
 use crate::expr_reader::ExprReader;
 use crate::listed::Listed;
@@ -18,7 +18,7 @@ use jav_tree::Expr;
 use mol_base::{List, OutOfMemory, Text};
 use mol_resolve_faults::FirstFault;
 use mol_resolve_readings::{Chain, ClassPath, Meant, Names};
-use mol_values::IExpr;
+use mol_values_types::IExpr;
 
 impl<N: Names> ExprReader<'_, N> {
     /// A call of what stands before a dot.

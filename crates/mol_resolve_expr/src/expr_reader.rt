@@ -18,7 +18,7 @@ use mol_base::{List, OutOfMemory, Text};
 use mol_resolve_faults::FirstFault;
 use mol_resolve_readings::meant::arrays::one_more;
 use mol_resolve_readings::{Locals, Meant, Names};
-use mol_values::IExpr;
+use mol_values_types::IExpr;
 use std::alloc::Global;
 
 /// Expressions at a place in source files, with the locals that are in scope there.

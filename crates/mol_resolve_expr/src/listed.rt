@@ -15,7 +15,7 @@ use mol_base::{List, OutOfMemory, Text};
 use mol_resolve_faults::FirstFault;
 use mol_resolve_readings::meant::arrays;
 use mol_resolve_readings::{Meant, Names, ReadType};
-use mol_values::IExpr;
+use mol_values_types::IExpr;
 
 /// What stands over any number of expressions.
 #[derive(Clone, Copy)]

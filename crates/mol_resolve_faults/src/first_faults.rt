@@ -1,7 +1,7 @@
 //! Which of the faults of source files is the first.
 //!
-//! The definitions stand in `specs/`, and the contracts of the crates above cite them. The call here computes nothing: it carries the law
-//! of the definitions.
+//! The definitions stand in `specs/first_faults/`, and the contracts of the crates above cite them. The call here computes nothing: it
+//! carries the law of the definitions.
 
 ghost use Rattle.mol_resolve_faults.specs.first_faults.FirstByPath.{FirstByPath};
 

@@ -1,4 +1,4 @@
-//! The faults for which source files are no program, and which of several is reported.
+//! The faults for which source files are no program, those that a member has beside others, and which of several is reported.
 #![tactic(auto)]
 
 mod beside;

@@ -7,22 +7,22 @@ use Rattle.jav_names.proofs.Lists.{stands_first, stands_later, stands_where, sta
 use Rattle.mol_base.specs.Order.{id_cmp, id_cmp-total}
 use Rattle.mol_base.specs.declared.ident.Id.{Id}
 use Rattle.mol_resolve_rules.proofs.Stands.{in_front, behind, in_either}
-use Rattle.mol_table.proofs.CellOrder.{cell_cmp-total}
-use Rattle.mol_table.proofs.Living.{same_id-own, id_tied, id_apart, known-insert}
-use Rattle.mol_table.proofs.NewClasses.{both-tied}
-use Rattle.mol_table.specs.Program.{Program, Knowns, cell, same_id, value_at, params_in}
-use Rattle.mol_table.specs.Writes.{kept_or, with_params, known_by, with_value, with_values, known_as, with_entity, with_entities}
-use Rattle.mol_table.specs.declared.entity.NewEntity.{NewEntity}
-use Rattle.mol_values.specs.Order.{slot_number}
-use Rattle.mol_values.specs.Slots.{slot_of, same_slot}
-use Rattle.mol_values.specs.declared.cell.Slot.{Slot}
-use Rattle.mol_values.specs.declared.kind.Kind.{Kind}
-use Rattle.mol_values.specs.declared.kind.Kind.TheVariants as kinds
-use Rattle.mol_values.specs.declared.known.Known.{Known}
-use Rattle.mol_values.specs.declared.known.Known.TheVariants as knowns
-use Rattle.mol_values.specs.declared.param.Param.{Param}
-use Rattle.mol_values.specs.declared.value.Value.{Value}
-use Rattle.mol_values.specs.declared.value.Value.TheVariants as values
+use Rattle.mol_table_rules.proofs.CellOrder.{cell_cmp-total}
+use Rattle.mol_table_rules.proofs.Living.{same_id-own, id_tied, id_apart, known-insert}
+use Rattle.mol_table_rules.proofs.NewClasses.{both-tied}
+use Rattle.mol_table_rules.specs.Program.{Program, Knowns, cell, same_id, value_at, params_in}
+use Rattle.mol_table_rules.specs.Writes.{kept_or, with_params, known_by, with_value, with_values, known_as, with_entity, with_entities}
+use Rattle.mol_table_rules.specs.declared.entity.NewEntity.{NewEntity}
+use Rattle.mol_values_types.specs.Order.{slot_number}
+use Rattle.mol_values_types.specs.Slots.{slot_of, same_slot}
+use Rattle.mol_values_types.specs.declared.cell.Slot.{Slot}
+use Rattle.mol_values_types.specs.declared.kind.Kind.{Kind}
+use Rattle.mol_values_types.specs.declared.kind.Kind.TheVariants as kinds
+use Rattle.mol_values_types.specs.declared.known.Known.{Known}
+use Rattle.mol_values_types.specs.declared.known.Known.TheVariants as knowns
+use Rattle.mol_values_types.specs.declared.param.Param.{Param}
+use Rattle.mol_values_types.specs.declared.value.Value.{Value}
+use Rattle.mol_values_types.specs.declared.value.Value.TheVariants as values
 use Rattle.mol_resolve_laws.proofs.Gives.{none-some}
 
 -- ---- entities whose identities differ

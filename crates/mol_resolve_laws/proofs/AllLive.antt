@@ -17,17 +17,17 @@ use Rattle.mol_resolve_rules.specs.Expected.{kind_of, member_known, known_of, ce
 use Rattle.mol_resolve_rules.specs.Files.{File, Files, PlacedMember, placed, member_at}
 use Rattle.mol_resolve_rules.specs.Numbering.{Numbered, numbered_class, numbered_member, numbered_method, numbered_param, in_order, id_at}
 use Rattle.mol_resolve_rules.specs.ReadAs.{IsPlain, KnowsLivingAlone}
-use Rattle.mol_table.proofs.Living.{same_id-own, id_tied}
-use Rattle.mol_table.specs.Life.{is_living_decl, lives_method, lives_as, lives}
-use Rattle.mol_table.specs.Program.{Program, Knowns, same_id, value_at, is_yes, living_at, params_in}
-use Rattle.mol_values.specs.Slots.{has_slot}
-use Rattle.mol_values.specs.declared.cell.Slot.{Slot}
-use Rattle.mol_values.specs.declared.cell.Slot.TheVariants as slots
-use Rattle.mol_values.specs.declared.known.Known.{Known}
-use Rattle.mol_values.specs.declared.known.Known.TheVariants as knowns
-use Rattle.mol_values.specs.declared.param.Param.{Param}
-use Rattle.mol_values.specs.declared.value.Value.{Value}
-use Rattle.mol_values.specs.declared.value.Value.TheVariants as values
+use Rattle.mol_table_rules.proofs.Living.{same_id-own, id_tied}
+use Rattle.mol_table_rules.specs.Life.{is_living_decl, lives_method, lives_as, lives}
+use Rattle.mol_table_rules.specs.Program.{Program, Knowns, same_id, value_at, is_yes, living_at, params_in}
+use Rattle.mol_values_types.specs.Slots.{has_slot}
+use Rattle.mol_values_types.specs.declared.cell.Slot.{Slot}
+use Rattle.mol_values_types.specs.declared.cell.Slot.TheVariants as slots
+use Rattle.mol_values_types.specs.declared.known.Known.{Known}
+use Rattle.mol_values_types.specs.declared.known.Known.TheVariants as knowns
+use Rattle.mol_values_types.specs.declared.param.Param.{Param}
+use Rattle.mol_values_types.specs.declared.value.Value.{Value}
+use Rattle.mol_values_types.specs.declared.value.Value.TheVariants as values
 use Rattle.mol_resolve_laws.proofs.EntityItems.{placed-declared, has-params}
 use Rattle.mol_resolve_laws.proofs.Gives.{none-some}
 use Rattle.mol_resolve_laws.proofs.MethodItems.{IsInMethod, method-item, param-item, method-stands, in-ids}

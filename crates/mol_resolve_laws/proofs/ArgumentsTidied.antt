@@ -6,14 +6,14 @@ use Rattle.std.specs.Cmp.{eq_by_cmp_equiv}
 use Rattle.std.specs.List.{list_any}
 use Rattle.mol_base.specs.Order.{id_cmp-total}
 use Rattle.mol_resolve_rules.specs.ReadTrees.{with_params}
-use Rattle.mol_table.proofs.Living.{same_id-own}
-use Rattle.mol_table.proofs.TidiedExpressions.{ids, passed-over}
-use Rattle.mol_table.specs.Forms.{differ}
-use Rattle.mol_table.specs.Program.{same_id}
-use Rattle.mol_table.specs.Tidy.{value_of, arguments_for}
-use Rattle.mol_values.specs.declared.iexpr.Argument.{Argument}
-use Rattle.mol_values.specs.declared.iexpr.IExpr.{IExpr}
-use Rattle.mol_values.specs.declared.param.Param.{Param}
+use Rattle.mol_table_rules.proofs.Living.{same_id-own}
+use Rattle.mol_table_rules.proofs.TidiedExpressions.{ids, passed-over}
+use Rattle.mol_table_rules.specs.Forms.{differ}
+use Rattle.mol_table_rules.specs.Program.{same_id}
+use Rattle.mol_table_rules.specs.Tidy.{value_of, arguments_for}
+use Rattle.mol_values_types.specs.declared.iexpr.Argument.{Argument}
+use Rattle.mol_values_types.specs.declared.iexpr.IExpr.{IExpr}
+use Rattle.mol_values_types.specs.declared.param.Param.{Param}
 
 is-false : (a : Bool) → not a ≡ true → a ≡ false
 is-false true is = absurd (true≢false (sym is))

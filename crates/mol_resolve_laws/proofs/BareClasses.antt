@@ -19,20 +19,20 @@ use Rattle.mol_resolve_rules.specs.Expected.{kind_of, member_known, known_of, ce
 use Rattle.mol_resolve_rules.specs.Files.{File, Files, HasFile, units, files_view, declaration_at, PlacedMember, placed, member_at}
 use Rattle.mol_resolve_rules.specs.Numbering.{Numbered, numbered_class, numbered_member, numbered_method, numbered_param, id_at, ids_of}
 use Rattle.mol_resolve_rules.specs.ReadAs.{HasNoFault}
-use Rattle.mol_table.proofs.Counts.{each_found}
-use Rattle.mol_table.proofs.Living.{id_tied}
-use Rattle.mol_table.specs.Life.{is_decl_of}
-use Rattle.mol_table.specs.Program.{Program, same_id, living_at, owner_in, owner_at}
-use Rattle.mol_table.specs.Tidy.{is_constructor, is_plain, is_living_decl_in, is_bare, bare_constructor}
-use Rattle.mol_values.specs.TokenForms.{is_empty}
-use Rattle.mol_table.specs.Program.{params_at}
-use Rattle.mol_values.specs.Slots.{has_slot}
-use Rattle.mol_values.specs.declared.cell.Slot.TheVariants as slots
-use Rattle.mol_values.specs.declared.kind.MethodKind.{MethodKind}
-use Rattle.mol_values.specs.declared.kind.MethodKind.TheVariants.{Instance, Static, Constructor}
-use Rattle.mol_values.specs.declared.known.Known.{Known}
-use Rattle.mol_values.specs.declared.known.Known.TheVariants as knowns
-use Rattle.mol_values.specs.declared.value.Value.{Value}
+use Rattle.mol_table_rules.proofs.Counts.{each_found}
+use Rattle.mol_table_rules.proofs.Living.{id_tied}
+use Rattle.mol_table_rules.specs.Life.{is_decl_of}
+use Rattle.mol_table_rules.specs.Program.{Program, same_id, living_at, owner_in, owner_at}
+use Rattle.mol_table_rules.specs.Tidy.{is_constructor, is_plain, is_living_decl_in, is_bare, bare_constructor}
+use Rattle.mol_values_types.specs.TokenForms.{is_empty}
+use Rattle.mol_table_rules.specs.Program.{params_at}
+use Rattle.mol_values_types.specs.Slots.{has_slot}
+use Rattle.mol_values_types.specs.declared.cell.Slot.TheVariants as slots
+use Rattle.mol_values_types.specs.declared.kind.MethodKind.{MethodKind}
+use Rattle.mol_values_types.specs.declared.kind.MethodKind.TheVariants.{Instance, Static, Constructor}
+use Rattle.mol_values_types.specs.declared.known.Known.{Known}
+use Rattle.mol_values_types.specs.declared.known.Known.TheVariants as knowns
+use Rattle.mol_values_types.specs.declared.value.Value.{Value}
 use Rattle.mol_resolve_laws.proofs.EntityItems.{placed-declared}
 use Rattle.mol_resolve_laws.proofs.Filled.{IsFilled}
 use Rattle.mol_resolve_laws.proofs.Gives.{none-some}

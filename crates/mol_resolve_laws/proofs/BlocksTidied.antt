@@ -7,25 +7,25 @@ use Rattle.mol_base.specs.declared.ident.Id.{Id}
 use Rattle.mol_resolve_rules.specs.Readers.{Reader}
 use Rattle.mol_resolve_rules.specs.ReadStatements.{ReadNode, ReadStatement, plain, statement_of, branching, else_of}
 use Rattle.mol_resolve_rules.specs.ReadTrees.{with_params}
-use Rattle.mol_table.specs.Tidy as tidying
-use Rattle.mol_table.specs.Tidy.{tidy_expr, tidy_declarator, tidy_let, tidy_start, tidy_else, tidy_node, tidy_block, tidy_if, tidy_statement}
-use Rattle.mol_values.specs.Blocks.{block_of, branch_of}
-use Rattle.mol_values.specs.declared.iblock.IBlock.{IBlock}
-use Rattle.mol_values.specs.declared.iblock.IDeclarator.{IDeclarator}
-use Rattle.mol_values.specs.declared.iblock.IElse.{IElse}
-use Rattle.mol_values.specs.declared.iblock.IElse.TheFolds.{fold-roll-IElse, fold-roll-IStmtNode, fold-roll-IBlock, fold-roll-IIf, fold-roll-IStmt, map-IElse, map-IStmtNode}
-use Rattle.mol_values.specs.declared.iblock.IElse.TheOpen.{IElse-F, IStmtNode-F}
-use Rattle.mol_values.specs.declared.iblock.IElse.TheVariants as elses
-use Rattle.mol_values.specs.declared.iblock.IElse.TheViews.{roll-IElse, roll-IStmtNode}
-use Rattle.mol_values.specs.declared.iblock.IForStart.{IForStart}
-use Rattle.mol_values.specs.declared.iblock.IIf.{IIf}
-use Rattle.mol_values.specs.declared.iblock.ILet.{ILet}
-use Rattle.mol_values.specs.declared.iblock.IStmt.{IStmt}
-use Rattle.mol_values.specs.declared.iblock.IStmtNode.{IStmtNode}
-use Rattle.mol_values.specs.declared.iblock.IStmtNode.TheVariants as nodes
-use Rattle.mol_values.specs.declared.iexpr.IExpr.{IExpr}
-use Rattle.mol_values.specs.declared.itype.IType.{IType}
-use Rattle.mol_values.specs.declared.param.Param.{Param}
+use Rattle.mol_table_rules.specs.Tidy as tidying
+use Rattle.mol_table_rules.specs.Tidy.{tidy_expr, tidy_declarator, tidy_let, tidy_start, tidy_else, tidy_node, tidy_block, tidy_if, tidy_statement}
+use Rattle.mol_values_types.specs.Blocks.{block_of, branch_of}
+use Rattle.mol_values_types.specs.declared.iblock.IBlock.{IBlock}
+use Rattle.mol_values_types.specs.declared.iblock.IDeclarator.{IDeclarator}
+use Rattle.mol_values_types.specs.declared.iblock.IElse.{IElse}
+use Rattle.mol_values_types.specs.declared.iblock.IElse.TheFolds.{fold-roll-IElse, fold-roll-IStmtNode, fold-roll-IBlock, fold-roll-IIf, fold-roll-IStmt, map-IElse, map-IStmtNode}
+use Rattle.mol_values_types.specs.declared.iblock.IElse.TheOpen.{IElse-F, IStmtNode-F}
+use Rattle.mol_values_types.specs.declared.iblock.IElse.TheVariants as elses
+use Rattle.mol_values_types.specs.declared.iblock.IElse.TheViews.{roll-IElse, roll-IStmtNode}
+use Rattle.mol_values_types.specs.declared.iblock.IForStart.{IForStart}
+use Rattle.mol_values_types.specs.declared.iblock.IIf.{IIf}
+use Rattle.mol_values_types.specs.declared.iblock.ILet.{ILet}
+use Rattle.mol_values_types.specs.declared.iblock.IStmt.{IStmt}
+use Rattle.mol_values_types.specs.declared.iblock.IStmtNode.{IStmtNode}
+use Rattle.mol_values_types.specs.declared.iblock.IStmtNode.TheVariants as nodes
+use Rattle.mol_values_types.specs.declared.iexpr.IExpr.{IExpr}
+use Rattle.mol_values_types.specs.declared.itype.IType.{IType}
+use Rattle.mol_values_types.specs.declared.param.Param.{Param}
 use Rattle.mol_resolve_rules.proofs.FilesStand.{some-same}
 use Rattle.mol_resolve_laws.proofs.TreesTidied.{IsTidied, AreTidied, AreFound, same-all, same-given}
 

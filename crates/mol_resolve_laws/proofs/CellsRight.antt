@@ -31,24 +31,24 @@ use Rattle.mol_resolve_rules.specs.ReadAs.{HasNoFault}
 use Rattle.mol_resolve_rules.specs.ReadFiles.{file_reader, member_reader, read_field, read_block}
 use Rattle.mol_resolve_rules.specs.ReadStatements.{read_initial, read_body}
 use Rattle.mol_resolve_rules.specs.ReadTypes.{ReadType, read_type}
-use Rattle.mol_table.specs.Forms.{is_formed}
-use Rattle.mol_table.specs.Mentions.{Mention, a_class, a_method, type_mentions, maybe_mentions, body_mentions, mentions}
-use Rattle.mol_table.specs.Program.{Program}
-use Rattle.mol_table.specs.Rules.{fills}
-use Rattle.mol_table.specs.StatementForms.{is_body}
-use Rattle.mol_values.specs.TokenForms.{are_comments, is_empty}
-use Rattle.mol_table.specs.TypeForms.{is_class, dimensions}
-use Rattle.mol_values.specs.Slots.{has_slot}
-use Rattle.mol_values.specs.declared.cell.Slot.{Slot}
-use Rattle.mol_values.specs.declared.cell.Slot.TheVariants as slots
-use Rattle.mol_values.specs.declared.iblock.IBody.{IBody}
-use Rattle.mol_values.specs.declared.iexpr.IExpr.{IExpr}
-use Rattle.mol_values.specs.declared.itype.IType.{IType}
-use Rattle.mol_values.specs.declared.known.Known.{Known}
-use Rattle.mol_values.specs.declared.known.Known.TheVariants as knowns
-use Rattle.mol_values.specs.declared.value.Value.{Value}
-use Rattle.mol_values.specs.declared.words.Notes.{Notes}
-use Rattle.mol_values.specs.declared.value.Value.TheVariants as values
+use Rattle.mol_table_rules.specs.Forms.{is_formed}
+use Rattle.mol_table_rules.specs.Mentions.{Mention, a_class, a_method, type_mentions, maybe_mentions, body_mentions, mentions}
+use Rattle.mol_table_rules.specs.Program.{Program}
+use Rattle.mol_table_rules.specs.Rules.{fills}
+use Rattle.mol_table_rules.specs.StatementForms.{is_body}
+use Rattle.mol_values_types.specs.TokenForms.{are_comments, is_empty}
+use Rattle.mol_table_rules.specs.TypeForms.{is_class, dimensions}
+use Rattle.mol_values_types.specs.Slots.{has_slot}
+use Rattle.mol_values_types.specs.declared.cell.Slot.{Slot}
+use Rattle.mol_values_types.specs.declared.cell.Slot.TheVariants as slots
+use Rattle.mol_values_types.specs.declared.iblock.IBody.{IBody}
+use Rattle.mol_values_types.specs.declared.iexpr.IExpr.{IExpr}
+use Rattle.mol_values_types.specs.declared.itype.IType.{IType}
+use Rattle.mol_values_types.specs.declared.known.Known.{Known}
+use Rattle.mol_values_types.specs.declared.known.Known.TheVariants as knowns
+use Rattle.mol_values_types.specs.declared.value.Value.{Value}
+use Rattle.mol_values_types.specs.declared.words.Notes.{Notes}
+use Rattle.mol_values_types.specs.declared.value.Value.TheVariants as values
 use Rattle.mol_resolve_laws.proofs.BlocksRight.{MaybeRight, BlockRight}
 use Rattle.mol_resolve_laws.proofs.ExpressionsRight.{type-within, typed}
 use Rattle.mol_resolve_laws.proofs.Filled.{IsFilled}

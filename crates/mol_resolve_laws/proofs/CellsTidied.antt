@@ -19,19 +19,19 @@ use Rattle.mol_resolve_rules.specs.ReadAs.{HasNoFault}
 use Rattle.mol_resolve_rules.specs.ReadFiles.{member_reader, read_field, read_block}
 use Rattle.mol_resolve_rules.specs.ReadStatements.{read_initial, read_body}
 use Rattle.mol_resolve_rules.specs.ReadTypes.{ReadType, read_type}
-use Rattle.mol_table.proofs.CellOrder.{cell_cmp-total, cell_cmp-IsAntisymmetric}
-use Rattle.mol_table.proofs.TidyRules.{tidied-at}
-use Rattle.mol_table.specs.Program.{Program, value_at, params_at}
-use Rattle.mol_table.specs.Tidy.{tidied, tidy, bare_constructor}
-use Rattle.mol_values.specs.Slots.{has_slot}
-use Rattle.mol_values.specs.declared.cell.Cell.{Cell}
-use Rattle.mol_values.specs.declared.cell.Slot.{Slot}
-use Rattle.mol_values.specs.declared.cell.Slot.TheVariants as slots
-use Rattle.mol_values.specs.declared.iblock.IBody.{IBody}
-use Rattle.mol_values.specs.declared.iexpr.IExpr.{IExpr}
-use Rattle.mol_values.specs.declared.known.Known.{Known}
-use Rattle.mol_values.specs.declared.value.Value.{Value}
-use Rattle.mol_values.specs.declared.value.Value.TheVariants as values
+use Rattle.mol_table_rules.proofs.CellOrder.{cell_cmp-total, cell_cmp-IsAntisymmetric}
+use Rattle.mol_table_rules.proofs.TidyRules.{tidied-at}
+use Rattle.mol_table_rules.specs.Program.{Program, value_at, params_at}
+use Rattle.mol_table_rules.specs.Tidy.{tidied, tidy, bare_constructor}
+use Rattle.mol_values_types.specs.Slots.{has_slot}
+use Rattle.mol_values_types.specs.declared.cell.Cell.{Cell}
+use Rattle.mol_values_types.specs.declared.cell.Slot.{Slot}
+use Rattle.mol_values_types.specs.declared.cell.Slot.TheVariants as slots
+use Rattle.mol_values_types.specs.declared.iblock.IBody.{IBody}
+use Rattle.mol_values_types.specs.declared.iexpr.IExpr.{IExpr}
+use Rattle.mol_values_types.specs.declared.known.Known.{Known}
+use Rattle.mol_values_types.specs.declared.value.Value.{Value}
+use Rattle.mol_values_types.specs.declared.value.Value.TheVariants as values
 use Rattle.mol_resolve_laws.proofs.BlocksTidied.{MaybeTidied, BlockTidied}
 use Rattle.mol_resolve_laws.proofs.Filled.{IsFilled}
 use Rattle.mol_resolve_laws.proofs.Gives.{Gives, none-some, gives-both, gives-fine, gives-mapped}

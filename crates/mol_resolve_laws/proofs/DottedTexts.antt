@@ -5,7 +5,7 @@ use Rattle.std.proofs.lemmas.List.Elements.{All-nil, All-cons, All-head, All-tai
 use Rattle.jav_names.proofs.CutNames.{names_cut}
 use Rattle.jav_names.proofs.Lists.{stands_where, stands_nowhere}
 use Rattle.jav_names.specs.DottedNames.{Name, Names, dot, HasNoDot, joined, Dotted, cut}
-use Rattle.mol_values.specs.TokenForms.{is_name, is_dotted}
+use Rattle.mol_values_types.specs.TokenForms.{is_name, is_dotted}
 use Rattle.mol_resolve_laws.proofs.Tests.{last-of}
 
 -- a text is split into the names that it is cut into

@@ -18,14 +18,14 @@ use Rattle.mol_resolve_rules.specs.Expected.{kind_of, member_known, known_of, va
 use Rattle.mol_resolve_rules.specs.Files.{File, Files, files_view, declaration_at, PlacedMember, member_at}
 use Rattle.mol_resolve_rules.specs.Numbering.{Numbered, numbered_class, numbered_member, numbered_method, numbered_param, in_order, id_at}
 use Rattle.mol_resolve_rules.specs.ReadAs.{FilesReadAs, HasNoFault, HoldsWhatIsSaid, IsPlain, Holds, SaysValue, equal_value, SourceText, IsParsed}
-use Rattle.mol_table.specs.Program.{nothing}
-use Rattle.mol_table.specs.Writes.{AreOfKind, AreNew, with_entities}
-use Rattle.mol_table.specs.declared.entity.NewEntity.{NewEntity}
-use Rattle.mol_values.specs.Slots.{kind_of_known, slots_of, has_slot}
-use Rattle.mol_values.specs.declared.cell.Slot.{Slot}
-use Rattle.mol_values.specs.declared.kind.Kind.TheVariants as kinds
-use Rattle.mol_values.specs.declared.known.Known.{Known}
-use Rattle.mol_values.specs.declared.known.Known.TheVariants as knowns
+use Rattle.mol_table_rules.specs.Program.{nothing}
+use Rattle.mol_table_rules.specs.Writes.{AreOfKind, AreNew, with_entities}
+use Rattle.mol_table_rules.specs.declared.entity.NewEntity.{NewEntity}
+use Rattle.mol_values_types.specs.Slots.{kind_of_known, slots_of, has_slot}
+use Rattle.mol_values_types.specs.declared.cell.Slot.{Slot}
+use Rattle.mol_values_types.specs.declared.kind.Kind.TheVariants as kinds
+use Rattle.mol_values_types.specs.declared.known.Known.{Known}
+use Rattle.mol_values_types.specs.declared.known.Known.TheVariants as knowns
 use Rattle.mol_resolve_laws.proofs.AllLive.{knows-living}
 use Rattle.mol_resolve_laws.proofs.CellsTidied.{tidied-program}
 use Rattle.mol_resolve_laws.proofs.EntityItems.{all-said}
@@ -99,10 +99,11 @@ module _ (files : Files) (entities : List NewEntity) (no_fault : HasNoFault file
         agree = refl;
       }
 
-  program-plain : IsPlain files (with_entities nothing entities)
-  program-plain = record {
+  program-plain : All IsTree files → IsPlain files (with_entities nothing entities)
+  program-plain trees = record {
     no_fault = no_fault;
     numbered = (entities-filled files no_fault entities are).numbered;
+    whole = (entities-new trees).rules.whole;
     holds = entities-hold;
   }
 
@@ -119,11 +120,11 @@ module _ (files : Files) (entities : List NewEntity) (no_fault : HasNoFault file
   files-read : All IsTree files → FilesReadAs files (with_entities nothing entities)
   files-read trees = record {
     no_fault = no_fault;
-    numbered = program-plain.numbered;
+    numbered = (program-plain trees).numbered;
     holds = entities-said;
     methods = methods_shared.by_name files (with_entities nothing entities) no_fault entities-said;
     tidied = tidied-program files no_fault (with_entities nothing entities) (entities-filled files no_fault entities are) trees;
-    all_live = knows-living files (with_entities nothing entities) program-plain;
+    all_live = knows-living files (with_entities nothing entities) (program-plain trees);
   }
 
 -- a text that is parsed has a tree of the grammar
@@ -138,7 +139,7 @@ entities_plain = record {
   trees = parsed-tree;
   listed = entities-listed;
   new = λ files entities no_fault trees are. entities-new files entities no_fault are trees;
-  plain = λ files entities no_fault trees are. program-plain files entities no_fault are;
+  plain = λ files entities no_fault trees are. program-plain files entities no_fault are trees;
   read = λ files entities no_fault trees are. files-read files entities no_fault are trees;
   living = knows-living;
 }

@@ -6,18 +6,18 @@ use Rattle.std.specs.FinMap.{get, insert, get-insert}
 use Rattle.jav_names.proofs.Lists.{stands_first, stands_later, stands_where, stands_nowhere}
 use Rattle.mol_base.specs.Order.{id_cmp-total}
 use Rattle.mol_base.specs.declared.ident.Id.{Id}
-use Rattle.mol_table.proofs.CellOrder.{slot_same}
-use Rattle.mol_table.proofs.Living.{same_id-own}
-use Rattle.mol_table.specs.Program.{Knowns, params_in}
-use Rattle.mol_table.specs.Writes.{known_by}
-use Rattle.mol_values.specs.Order.{slot_number}
-use Rattle.mol_values.specs.Slots.{slot_of, same_slot}
-use Rattle.mol_values.specs.declared.cell.Slot.{Slot}
-use Rattle.mol_values.specs.declared.cell.Slot.TheVariants as slots
-use Rattle.mol_values.specs.declared.known.Known.{Known}
-use Rattle.mol_values.specs.declared.param.Param.{Param}
-use Rattle.mol_values.specs.declared.value.Value.{Value}
-use Rattle.mol_values.specs.declared.value.Value.TheVariants as values
+use Rattle.mol_table_rules.proofs.CellOrder.{slot_same}
+use Rattle.mol_table_rules.proofs.Living.{same_id-own}
+use Rattle.mol_table_rules.specs.Program.{Knowns, params_in}
+use Rattle.mol_table_rules.specs.Writes.{known_by}
+use Rattle.mol_values_types.specs.Order.{slot_number}
+use Rattle.mol_values_types.specs.Slots.{slot_of, same_slot}
+use Rattle.mol_values_types.specs.declared.cell.Slot.{Slot}
+use Rattle.mol_values_types.specs.declared.cell.Slot.TheVariants as slots
+use Rattle.mol_values_types.specs.declared.known.Known.{Known}
+use Rattle.mol_values_types.specs.declared.param.Param.{Param}
+use Rattle.mol_values_types.specs.declared.value.Value.{Value}
+use Rattle.mol_values_types.specs.declared.value.Value.TheVariants as values
 use Rattle.mol_resolve_laws.proofs.Added.{held, known_after, kept-params, params_of}
 
 -- ---- what the values of slots leave

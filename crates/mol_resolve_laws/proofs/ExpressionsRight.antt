@@ -26,13 +26,13 @@ use Rattle.mol_resolve_rules.specs.Outcomes.{Outcome, mapped, over, beside, both
 use Rattle.mol_resolve_rules.specs.Readers.{Reader}
 use Rattle.mol_resolve_rules.specs.ReadTrees.{Meant, Mode, before, followers, Reading, ClassPath, whole_path, front_path, no_path, path_of, arrays, unary_type, binary_type, meant, alone, values_of, field_meant, dot_meant, call_here, call_through, call_on, call_meant, super_call, created, index_meant, choice, node_step, expr_step, reading, read_expr}
 use Rattle.mol_resolve_rules.specs.ReadTypes.{ReadType, seen_type, read_type}
-use Rattle.mol_table.specs.ExpressionForms.{is_value, are_values, shape_of}
-use Rattle.mol_table.specs.Mentions.{Mention, joined, expr_mentions, type_mentions}
-use Rattle.mol_table.specs.TypeForms.{is_type, is_array, is_outside_class, dimensions}
-use Rattle.mol_values.specs.declared.itype.IType.{IType}
-use Rattle.mol_values.specs.declared.iexpr.IExpr.{IExpr}
-use Rattle.mol_values.specs.declared.iexpr.IExpr.TheOpen.{IExpr-F}
-use Rattle.mol_values.specs.declared.iexpr.IExpr.TheVariants as exprs
+use Rattle.mol_table_rules.specs.ExpressionForms.{is_value, are_values, shape_of}
+use Rattle.mol_table_rules.specs.Mentions.{Mention, joined, expr_mentions, type_mentions}
+use Rattle.mol_table_rules.specs.TypeForms.{is_type, is_array, is_outside_class, dimensions}
+use Rattle.mol_values_types.specs.declared.itype.IType.{IType}
+use Rattle.mol_values_types.specs.declared.iexpr.IExpr.{IExpr}
+use Rattle.mol_values_types.specs.declared.iexpr.IExpr.TheOpen.{IExpr-F}
+use Rattle.mol_values_types.specs.declared.iexpr.IExpr.TheVariants as exprs
 use Rattle.mol_resolve_laws.proofs.Gives.{Gives, gives-fine, gives-silent, gives-mapped, gives-both, gives-over, gives-beside}
 use Rattle.mol_resolve_laws.proofs.NamesRight.{MeantRight, gives-valued, gives-name, gives-static_field, gives-front, gives-field_on, gives-index, gives-call_here, gives-call_through, gives-call_on, gives-super_call, gives-created}
 use Rattle.mol_resolve_laws.proofs.Right.{ReadsRightly, passes-both}

@@ -16,9 +16,9 @@ use Rattle.mol_resolve_rules.specs.Outcomes.{Outcome, mapped, over, beside, both
 use Rattle.mol_resolve_rules.specs.Readers.{Reader}
 use Rattle.mol_resolve_rules.specs.ReadTrees.{Meant, Mode, before, followers, Reading, ClassPath, whole_path, front_path, no_path, path_of, arrays, unary_type, binary_type, meant, alone, values_of, field_meant, dot_meant, call_here, call_through, call_on, call_meant, super_call, created, index_meant, choice, node_step, expr_step, reading, read_expr}
 use Rattle.mol_resolve_rules.specs.ReadTypes.{ReadType, read_type}
-use Rattle.mol_values.specs.declared.iexpr.IExpr.{IExpr}
-use Rattle.mol_values.specs.declared.iexpr.IExpr.TheVariants as exprs
-use Rattle.mol_values.specs.declared.param.Param.{Param}
+use Rattle.mol_values_types.specs.declared.iexpr.IExpr.{IExpr}
+use Rattle.mol_values_types.specs.declared.iexpr.IExpr.TheVariants as exprs
+use Rattle.mol_values_types.specs.declared.param.Param.{Param}
 use Rattle.mol_resolve_laws.proofs.Gives.{Gives, gives-fine, gives-silent, gives-mapped, gives-both, gives-over, gives-beside}
 use Rattle.mol_resolve_laws.proofs.NamesTidied.{ReadsTidily, Tidied, Listed, gives-valued, gives-name, gives-static_field, gives-front, gives-field_on, gives-index, gives-call_here, gives-call_through, gives-call_on, gives-super_call, gives-created}
 use Rattle.mol_resolve_laws.proofs.TreesTidied.{IsTidied, tidied-Lit, tidied-This, tidied-Unary, tidied-Post, tidied-Cast, tidied-InstanceOf, tidied-Binary, tidied-Assign, tidied-Cond, tidied-Braces, tidied-ArrayLit, tidied-NewArray}

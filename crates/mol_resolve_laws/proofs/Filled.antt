@@ -16,15 +16,15 @@ use Rattle.mol_resolve_rules.specs.Expected.{known_of, value_of}
 use Rattle.mol_resolve_rules.specs.Files.{Files}
 use Rattle.mol_resolve_rules.specs.Numbering.{Numbered, numbered_class, numbered_member, numbered_method, numbered_param, in_order, id_at}
 use Rattle.mol_resolve_rules.specs.ReadAs.{HasNoFault, IsNumbered}
-use Rattle.mol_table.proofs.Living.{same_id-own, id_tied}
-use Rattle.mol_table.specs.Program.{Program, nothing, same_id, cell, value_at}
-use Rattle.mol_table.specs.Writes.{with_entities}
-use Rattle.mol_table.specs.declared.entity.NewEntity.{NewEntity}
-use Rattle.mol_values.specs.Order.{cell_cmp}
-use Rattle.mol_values.specs.Slots.{kind_of_known, slots_of, has_slot}
-use Rattle.mol_values.specs.declared.cell.Slot.{Slot}
-use Rattle.mol_values.specs.declared.known.Known.{Known}
-use Rattle.mol_values.specs.declared.known.Known.TheVariants as knowns
+use Rattle.mol_table_rules.proofs.Living.{same_id-own, id_tied}
+use Rattle.mol_table_rules.specs.Program.{Program, nothing, same_id, cell, value_at}
+use Rattle.mol_table_rules.specs.Writes.{with_entities}
+use Rattle.mol_table_rules.specs.declared.entity.NewEntity.{NewEntity}
+use Rattle.mol_values_types.specs.Order.{cell_cmp}
+use Rattle.mol_values_types.specs.Slots.{kind_of_known, slots_of, has_slot}
+use Rattle.mol_values_types.specs.declared.cell.Slot.{Slot}
+use Rattle.mol_values_types.specs.declared.known.Known.{Known}
+use Rattle.mol_values_types.specs.declared.known.Known.TheVariants as knowns
 use Rattle.mol_resolve_laws.proofs.Added.{HasNoId, AreApart, apart-pairs, params_of, held, cells-elsewhere, cells-held, known-own, IsListedIn, known-new, known-listed}
 use Rattle.mol_resolve_laws.proofs.EntityItems.{all-said, item-entity}
 use Rattle.mol_resolve_laws.proofs.EntityValues.{held-said}

@@ -12,11 +12,11 @@ use Rattle.mol_base.specs.Lexical.Names.{word_literals}
 use Rattle.mol_base.specs.Lexical.Tokens.{IsOneToken, word, number, character}
 use Rattle.mol_base.specs.declared.token_kind.TokenKind.TheVariants as kind
 use Rattle.mol_resolve_rules.specs.Expected.{filler_step, filler_of}
-use Rattle.mol_values.specs.TokenForms.{is_literal_kind, is_number, is_filler}
-use Rattle.mol_values.specs.declared.itype.IType.{IType}
-use Rattle.mol_values.specs.declared.itype.IType.TheFolds.{fold-roll-IType, ind-IType, map-IType}
-use Rattle.mol_values.specs.declared.itype.IType.TheOpen.{IType-F}
-use Rattle.mol_values.specs.declared.itype.IType.TheViews.{roll-IType}
+use Rattle.mol_values_types.specs.TokenForms.{is_literal_kind, is_number, is_filler}
+use Rattle.mol_values_types.specs.declared.itype.IType.{IType}
+use Rattle.mol_values_types.specs.declared.itype.IType.TheFolds.{fold-roll-IType, ind-IType, map-IType}
+use Rattle.mol_values_types.specs.declared.itype.IType.TheOpen.{IType-F}
+use Rattle.mol_values_types.specs.declared.itype.IType.TheViews.{roll-IType}
 
 literal-filler : (text : Name) → IsOneToken kind.Literal text → is_filler text ≡ true
 literal-filler text token =

@@ -20,11 +20,11 @@ use Rattle.mol_resolve_rules.specs.Expected.{kind_of, member_known, known_of, ce
 use Rattle.mol_resolve_rules.specs.Files.{File, Files, HasFile, units, files_view, declaration_at, PlacedMember, placed, member_at}
 use Rattle.mol_resolve_rules.specs.Numbering.{Numbered, numbered_class, numbered_member, numbered_method, numbered_param, in_order, id_at}
 use Rattle.mol_resolve_rules.specs.ReadAs.{HasNoFault}
-use Rattle.mol_table.specs.Program.{Program}
-use Rattle.mol_values.specs.Slots.{has_slot}
-use Rattle.mol_values.specs.declared.cell.Slot.{Slot}
-use Rattle.mol_values.specs.declared.known.Known.{Known}
-use Rattle.mol_values.specs.declared.known.Known.TheVariants as knowns
+use Rattle.mol_table_rules.specs.Program.{Program}
+use Rattle.mol_values_types.specs.Slots.{has_slot}
+use Rattle.mol_values_types.specs.declared.cell.Slot.{Slot}
+use Rattle.mol_values_types.specs.declared.known.Known.{Known}
+use Rattle.mol_values_types.specs.declared.known.Known.TheVariants as knowns
 use Rattle.mol_resolve_laws.proofs.CellsRight.{SaysRight, says-none, within-tallest, class-cell, field-cell, method-decl-cell, constructor-decl-cell}
 use Rattle.mol_resolve_laws.proofs.Filled.{IsFilled}
 use Rattle.mol_resolve_laws.proofs.Gives.{none-some}

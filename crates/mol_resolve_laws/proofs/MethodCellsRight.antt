@@ -33,27 +33,27 @@ use Rattle.mol_resolve_rules.specs.ReadAs.{HasNoFault}
 use Rattle.mol_resolve_rules.specs.ReadFiles.{declared_ids, member_reader, read_params}
 use Rattle.mol_resolve_rules.specs.Readers.{Reader}
 use Rattle.mol_resolve_rules.specs.ReadTypes.{ReadType, read_type}
-use Rattle.mol_table.proofs.Living.{same_id-own, id_tied}
-use Rattle.mol_table.specs.Forms.{is_param, is_formed, differ}
-use Rattle.mol_table.specs.Mentions as mention
-use Rattle.mol_table.specs.Mentions.{Mention, a_listed_param, named, type_mentions, param_mentions, mentions}
-use Rattle.mol_table.specs.Program.{Program, same_id}
-use Rattle.mol_table.specs.Rules.{fills}
-use Rattle.mol_values.specs.TokenForms.{is_name}
-use Rattle.mol_table.specs.TypeForms.{is_type, is_void, is_result, void_step, dimensions}
-use Rattle.mol_values.specs.declared.cell.Slot.{Slot}
-use Rattle.mol_values.specs.declared.cell.Slot.TheVariants as slots
-use Rattle.mol_values.specs.declared.itype.IType.{IType}
-use Rattle.mol_values.specs.declared.itype.IType.TheFolds.{fold-roll-IType}
-use Rattle.mol_values.specs.declared.itype.IType.TheOpen.{IType-F}
-use Rattle.mol_values.specs.declared.itype.IType.TheVariants as types
-use Rattle.mol_values.specs.declared.kind.MethodKind.{MethodKind}
-use Rattle.mol_values.specs.declared.kind.MethodKind.TheVariants.{Instance, Static, Constructor}
-use Rattle.mol_values.specs.declared.known.Known.{Known}
-use Rattle.mol_values.specs.declared.known.Known.TheVariants as knowns
-use Rattle.mol_values.specs.declared.param.Param.{Param}
-use Rattle.mol_values.specs.declared.value.Value.{Value}
-use Rattle.mol_values.specs.declared.value.Value.TheVariants as values
+use Rattle.mol_table_rules.proofs.Living.{same_id-own, id_tied}
+use Rattle.mol_table_rules.specs.Forms.{is_param, is_formed, differ}
+use Rattle.mol_table_rules.specs.Mentions as mention
+use Rattle.mol_table_rules.specs.Mentions.{Mention, a_listed_param, named, type_mentions, param_mentions, mentions}
+use Rattle.mol_table_rules.specs.Program.{Program, same_id}
+use Rattle.mol_table_rules.specs.Rules.{fills}
+use Rattle.mol_values_types.specs.TokenForms.{is_name}
+use Rattle.mol_table_rules.specs.TypeForms.{is_type, is_void, is_result, void_step, dimensions}
+use Rattle.mol_values_types.specs.declared.cell.Slot.{Slot}
+use Rattle.mol_values_types.specs.declared.cell.Slot.TheVariants as slots
+use Rattle.mol_values_types.specs.declared.itype.IType.{IType}
+use Rattle.mol_values_types.specs.declared.itype.IType.TheFolds.{fold-roll-IType}
+use Rattle.mol_values_types.specs.declared.itype.IType.TheOpen.{IType-F}
+use Rattle.mol_values_types.specs.declared.itype.IType.TheVariants as types
+use Rattle.mol_values_types.specs.declared.kind.MethodKind.{MethodKind}
+use Rattle.mol_values_types.specs.declared.kind.MethodKind.TheVariants.{Instance, Static, Constructor}
+use Rattle.mol_values_types.specs.declared.known.Known.{Known}
+use Rattle.mol_values_types.specs.declared.known.Known.TheVariants as knowns
+use Rattle.mol_values_types.specs.declared.param.Param.{Param}
+use Rattle.mol_values_types.specs.declared.value.Value.{Value}
+use Rattle.mol_values_types.specs.declared.value.Value.TheVariants as values
 use Rattle.mol_resolve_laws.proofs.CellsRight.{CellRight, SaysRight, says-none, says, says-made, at as at_place, right-at}
 use Rattle.mol_resolve_laws.proofs.EntityItems.{has-params}
 use Rattle.mol_resolve_laws.proofs.ExpressionsRight.{type-within, typed}

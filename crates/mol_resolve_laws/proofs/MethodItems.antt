@@ -18,7 +18,7 @@ use Rattle.mol_resolve_rules.specs.Files.{File, Files, units, files_view, params
 use Rattle.mol_resolve_rules.specs.Numbering.{Numbered, numbered_class, numbered_member, numbered_method, numbered_param, same_key, topmost, by_path, below, keys_in_order, numbered_in_method, numbered_at_key, in_order, id_at, ids_of}
 use Rattle.mol_resolve_rules.specs.Outcomes.{Outcome, all}
 use Rattle.mol_resolve_rules.specs.ReadTypes.{ReadType}
-use Rattle.mol_values.specs.declared.param.Param.{Param as Listed}
+use Rattle.mol_values_types.specs.declared.param.Param.{Param as Listed}
 use Rattle.mol_resolve_laws.proofs.Gives.{none-some}
 
 module _ (files : Files) where

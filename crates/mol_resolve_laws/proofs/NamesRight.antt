@@ -25,12 +25,12 @@ use Rattle.mol_resolve_rules.specs.Outcomes.{refused, given}
 use Rattle.mol_resolve_rules.specs.Readers.{Parameter, Reader, place_of}
 use Rattle.mol_resolve_rules.specs.ReadTrees.{Meant, Mode, with_params, meant, valued, local_meant, param_meant, field_word, variable_meant, name_alone, name_before, name_meant, static_field_meant, front_meant, field_on_word, field_meant, arguments_of, static_call, own_call, call_here, call_through, call_on, super_call, class_created, created, index_meant}
 use Rattle.mol_resolve_rules.specs.ReadTypes.{ReadType}
-use Rattle.mol_table.specs.Mentions.{Mention, a_class, a_field, a_called_method, a_static_method, a_constructor, a_param, named, joined, expr_mentions, type_mentions}
-use Rattle.mol_values.specs.TokenForms.{is_name, is_dotted}
-use Rattle.mol_table.specs.TypeForms.{is_outside_class}
-use Rattle.mol_values.specs.declared.iexpr.IExpr.{IExpr}
-use Rattle.mol_values.specs.declared.iexpr.IExpr.TheOpen.{IExpr-F}
-use Rattle.mol_values.specs.declared.iexpr.IExpr.TheVariants as exprs
+use Rattle.mol_table_rules.specs.Mentions.{Mention, a_class, a_field, a_called_method, a_static_method, a_constructor, a_param, named, joined, expr_mentions, type_mentions}
+use Rattle.mol_values_types.specs.TokenForms.{is_name, is_dotted}
+use Rattle.mol_table_rules.specs.TypeForms.{is_outside_class}
+use Rattle.mol_values_types.specs.declared.iexpr.IExpr.{IExpr}
+use Rattle.mol_values_types.specs.declared.iexpr.IExpr.TheOpen.{IExpr-F}
+use Rattle.mol_values_types.specs.declared.iexpr.IExpr.TheVariants as exprs
 use Rattle.mol_resolve_rules.proofs.Stands.{in_place}
 use Rattle.mol_resolve_laws.proofs.Gives.{Gives, gives-fine, gives-refused, gives-silent, gives-given}
 use Rattle.mol_resolve_laws.proofs.Right.{Passes, Takes, ReadsRightly, passes-both, passes-named}

@@ -19,9 +19,9 @@ use Rattle.mol_resolve_rules.specs.Outcomes.{refused, given}
 use Rattle.mol_resolve_rules.specs.Readers.{Parameter, Reader, place_of}
 use Rattle.mol_resolve_rules.specs.ReadTrees.{Meant, Mode, with_params, meant, valued, local_meant, param_meant, field_word, variable_meant, name_alone, name_before, name_meant, static_field_meant, front_meant, field_on_word, field_meant, arguments_of, static_call, own_call, call_here, call_through, call_on, super_call, class_created, created, index_meant}
 use Rattle.mol_resolve_rules.specs.ReadTypes.{ReadType}
-use Rattle.mol_values.specs.declared.iexpr.IExpr.{IExpr}
-use Rattle.mol_values.specs.declared.iexpr.IExpr.TheVariants as exprs
-use Rattle.mol_values.specs.declared.param.Param.{Param}
+use Rattle.mol_values_types.specs.declared.iexpr.IExpr.{IExpr}
+use Rattle.mol_values_types.specs.declared.iexpr.IExpr.TheVariants as exprs
+use Rattle.mol_values_types.specs.declared.param.Param.{Param}
 use Rattle.mol_resolve_laws.proofs.Gives.{Gives, gives-fine, gives-refused, gives-silent, gives-given}
 use Rattle.mol_resolve_laws.proofs.NamesRight.{answered}
 use Rattle.mol_resolve_laws.proofs.Right.{ReadsRightly}

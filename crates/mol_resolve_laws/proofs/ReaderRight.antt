@@ -22,12 +22,12 @@ use Rattle.mol_resolve_rules.specs.Files.{File, Files, HasFile, units, files_vie
 use Rattle.mol_resolve_rules.specs.Numbering.{Numbered, numbered_class, numbered_member, numbered_method, topmost, by_path, keys_in_order, numbered_at_key, in_order, id_at, ids_of}
 use Rattle.mol_resolve_rules.specs.ReadAs.{HasNoFault}
 use Rattle.mol_resolve_rules.specs.ReadFiles.{file_reader, member_reader}
-use Rattle.mol_table.specs.Mentions.{Mention, a_class, a_field, a_called_method, a_static_method, a_constructor}
-use Rattle.mol_table.specs.Program.{Program, Knowns}
-use Rattle.mol_table.specs.Rules.{fills}
-use Rattle.mol_values.specs.TokenForms.{is_dotted}
-use Rattle.mol_values.specs.declared.known.Known.{Known}
-use Rattle.mol_values.specs.declared.known.Known.TheVariants as knowns
+use Rattle.mol_table_rules.specs.Mentions.{Mention, a_class, a_field, a_called_method, a_static_method, a_constructor}
+use Rattle.mol_table_rules.specs.Program.{Program, Knowns}
+use Rattle.mol_table_rules.specs.Rules.{fills}
+use Rattle.mol_values_types.specs.TokenForms.{is_dotted}
+use Rattle.mol_values_types.specs.declared.known.Known.{Known}
+use Rattle.mol_values_types.specs.declared.known.Known.TheVariants as knowns
 use Rattle.mol_resolve_laws.proofs.Filled.{IsFilled}
 use Rattle.mol_resolve_laws.proofs.MethodsAgree.{no_circle, topmost-is}
 use Rattle.mol_resolve_laws.proofs.Right.{ReadsRightly}

@@ -16,14 +16,14 @@ use Rattle.mol_resolve_rules.specs.Numbering.{numbered_class, numbered_method, n
 use Rattle.mol_resolve_rules.specs.ReadAs.{HasNoFault}
 use Rattle.mol_resolve_rules.specs.ReadFiles.{member_reader}
 use Rattle.mol_resolve_rules.specs.ReadTrees.{with_params}
-use Rattle.mol_table.proofs.TidiedExpressions.{ids as ids_listed}
-use Rattle.mol_table.specs.Forms.{differ}
-use Rattle.mol_table.specs.Program.{Program, params_in, params_at}
-use Rattle.mol_table.specs.Tidy.{arguments_for, bare_constructor}
-use Rattle.mol_values.specs.declared.cell.Slot.TheVariants as slots
-use Rattle.mol_values.specs.declared.iexpr.IExpr.{IExpr}
-use Rattle.mol_values.specs.declared.known.Known.TheVariants as knowns
-use Rattle.mol_values.specs.declared.param.Param.{Param}
+use Rattle.mol_table_rules.proofs.TidiedExpressions.{ids as ids_listed}
+use Rattle.mol_table_rules.specs.Forms.{differ}
+use Rattle.mol_table_rules.specs.Program.{Program, params_in, params_at}
+use Rattle.mol_table_rules.specs.Tidy.{arguments_for, bare_constructor}
+use Rattle.mol_values_types.specs.declared.cell.Slot.TheVariants as slots
+use Rattle.mol_values_types.specs.declared.iexpr.IExpr.{IExpr}
+use Rattle.mol_values_types.specs.declared.known.Known.TheVariants as knowns
+use Rattle.mol_values_types.specs.declared.param.Param.{Param}
 use Rattle.mol_resolve_laws.proofs.ArgumentsTidied.{found-in-order}
 use Rattle.mol_resolve_laws.proofs.BareClasses.{default-bare}
 use Rattle.mol_resolve_laws.proofs.EntityItems.{has-params}

@@ -9,8 +9,8 @@ use Rattle.jav_names.specs.DottedNames.{Name}
 use Rattle.jav_names.specs.Types.{OwnStands}
 use Rattle.jav_names.specs.Views.{ViewField, static_method, constructor, ViewDeclaration, IsOrdered}
 use Rattle.mol_resolve_rules.specs.Readers.{Reader}
-use Rattle.mol_table.specs.Mentions.{Role, Mention, a_class, a_field, a_called_method, a_static_method, a_constructor, a_param, named}
-use Rattle.mol_values.specs.TokenForms.{is_dotted}
+use Rattle.mol_table_rules.specs.Mentions.{Role, Mention, a_class, a_field, a_called_method, a_static_method, a_constructor, a_param, named}
+use Rattle.mol_values_types.specs.TokenForms.{is_dotted}
 
 abbrev pub Passes : (Mention → Bool) → List Mention → Type 0
 Passes test mentions = list_all test mentions ≡ true

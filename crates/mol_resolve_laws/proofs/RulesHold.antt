@@ -24,21 +24,21 @@ use Rattle.mol_resolve_rules.specs.ReadAs.{HasNoFault}
 use Rattle.mol_resolve_rules.specs.ReadFiles.{member_reader, read_block}
 use Rattle.mol_resolve_rules.specs.ReadStatements.{read_body}
 use Rattle.mol_resolve_rules.specs.Readers.{Reader}
-use Rattle.mol_table.specs.Forms.{has_form, is_formed}
-use Rattle.mol_table.specs.Mentions.{a_method}
-use Rattle.mol_table.specs.Program.{Program, value_at}
-use Rattle.mol_table.specs.Rules.{fills, refers_rightly, is_declared, has_many, IsProgram}
-use Rattle.mol_values.specs.Words.{are_words}
-use Rattle.mol_values.specs.Slots.{same_slot, has_slot}
-use Rattle.mol_values.specs.declared.cell.Slot.{Slot}
-use Rattle.mol_values.specs.declared.cell.Slot.TheVariants as slots
-use Rattle.mol_values.specs.declared.iblock.IBody.{IBody}
-use Rattle.mol_values.specs.declared.kind.MethodKind.{MethodKind}
-use Rattle.mol_values.specs.declared.kind.MethodKind.TheVariants.{Instance, Static, Constructor}
-use Rattle.mol_values.specs.declared.known.Known.{Known}
-use Rattle.mol_values.specs.declared.known.Known.TheVariants as knowns
-use Rattle.mol_values.specs.declared.value.Value.{Value}
-use Rattle.mol_values.specs.declared.value.Value.TheVariants as values
+use Rattle.mol_table_rules.specs.Forms.{has_form, is_formed}
+use Rattle.mol_table_rules.specs.Mentions.{a_method}
+use Rattle.mol_table_rules.specs.Program.{Program, value_at}
+use Rattle.mol_table_rules.specs.Rules.{fills, refers_rightly, is_declared, has_many, IsProgram}
+use Rattle.mol_values_types.specs.Words.{are_words}
+use Rattle.mol_values_types.specs.Slots.{same_slot, has_slot}
+use Rattle.mol_values_types.specs.declared.cell.Slot.{Slot}
+use Rattle.mol_values_types.specs.declared.cell.Slot.TheVariants as slots
+use Rattle.mol_values_types.specs.declared.iblock.IBody.{IBody}
+use Rattle.mol_values_types.specs.declared.kind.MethodKind.{MethodKind}
+use Rattle.mol_values_types.specs.declared.kind.MethodKind.TheVariants.{Instance, Static, Constructor}
+use Rattle.mol_values_types.specs.declared.known.Known.{Known}
+use Rattle.mol_values_types.specs.declared.known.Known.TheVariants as knowns
+use Rattle.mol_values_types.specs.declared.value.Value.{Value}
+use Rattle.mol_values_types.specs.declared.value.Value.TheVariants as values
 use Rattle.mol_resolve_laws.proofs.EntityItems.{placed-declared, has-member}
 use Rattle.mol_resolve_laws.proofs.EntityValues.{same-own}
 use Rattle.mol_resolve_laws.proofs.Filled.{IsFilled}

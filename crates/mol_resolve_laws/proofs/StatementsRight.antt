@@ -37,22 +37,22 @@ use Rattle.mol_resolve_rules.specs.ReadStatements as statements
 use Rattle.mol_resolve_rules.specs.ReadStatements.{ReadOn, ReadsTo, declaring_none, mapped_on, followed_by, then_next, each, in_block, ReadNode, ReadStatement, plain, statement_of, branching, redeclared_faults, declaring, read_exprs, read_maybe, read_declarator, let_of, read_let, super_read, super_if, read_start, read_header, read_each, else_of, read_initial, read_body, block_reading}
 use Rattle.mol_resolve_rules.specs.ReadTrees.{with_params, read_expr}
 use Rattle.mol_resolve_rules.specs.ReadTypes.{ReadType, read_type, seen_type}
-use Rattle.mol_table.proofs.KeptBlocks.{block_mentions}
-use Rattle.mol_table.specs.ExpressionForms.{are_arguments, is_statement}
-use Rattle.mol_table.specs.Mentions.{Mention, a_class, a_constructor, named, type_mentions, expr_mentions, exprs_mentions, arguments_mentions, maybe_mentions, start_mentions}
-use Rattle.mol_table.specs.StatementForms.{is_declarator}
-use Rattle.mol_values.specs.Blocks.{branch_of}
-use Rattle.mol_values.specs.declared.iblock.IBlock.{IBlock}
-use Rattle.mol_values.specs.declared.iblock.IBody.{IBody}
-use Rattle.mol_values.specs.declared.iblock.IDeclarator.{IDeclarator}
-use Rattle.mol_values.specs.declared.iblock.IElse.{IElse}
-use Rattle.mol_values.specs.declared.iblock.IElse.TheOpen.{IStmtNode-F}
-use Rattle.mol_values.specs.declared.iblock.IElse.TheVariants as elses
-use Rattle.mol_values.specs.declared.iblock.IForStart.{IForStart}
-use Rattle.mol_values.specs.declared.iblock.IForStart.TheVariants as starts
-use Rattle.mol_values.specs.declared.iblock.IStmtNode.{IStmtNode}
-use Rattle.mol_values.specs.declared.iblock.IStmtNode.TheVariants as nodes
-use Rattle.mol_values.specs.declared.iexpr.IExpr.{IExpr}
+use Rattle.mol_table_rules.proofs.KeptBlocks.{block_mentions}
+use Rattle.mol_table_rules.specs.ExpressionForms.{are_arguments, is_statement}
+use Rattle.mol_table_rules.specs.Mentions.{Mention, a_class, a_constructor, named, type_mentions, expr_mentions, exprs_mentions, arguments_mentions, maybe_mentions, start_mentions}
+use Rattle.mol_table_rules.specs.StatementForms.{is_declarator}
+use Rattle.mol_values_types.specs.Blocks.{branch_of}
+use Rattle.mol_values_types.specs.declared.iblock.IBlock.{IBlock}
+use Rattle.mol_values_types.specs.declared.iblock.IBody.{IBody}
+use Rattle.mol_values_types.specs.declared.iblock.IDeclarator.{IDeclarator}
+use Rattle.mol_values_types.specs.declared.iblock.IElse.{IElse}
+use Rattle.mol_values_types.specs.declared.iblock.IElse.TheOpen.{IStmtNode-F}
+use Rattle.mol_values_types.specs.declared.iblock.IElse.TheVariants as elses
+use Rattle.mol_values_types.specs.declared.iblock.IForStart.{IForStart}
+use Rattle.mol_values_types.specs.declared.iblock.IForStart.TheVariants as starts
+use Rattle.mol_values_types.specs.declared.iblock.IStmtNode.{IStmtNode}
+use Rattle.mol_values_types.specs.declared.iblock.IStmtNode.TheVariants as nodes
+use Rattle.mol_values_types.specs.declared.iexpr.IExpr.{IExpr}
 use Rattle.mol_resolve_laws.proofs.BlocksRight.{exprs-mentioned, not-empty-some, joined-arguments, argument-shapes, all-mapped, MaybeRight, DeclaratorRight, DeclaratorsRight, LetRight, StartRight, ElseRight, NodeRight, StmtRight, ItemsRight, BlockRight, node-ordinary, node-super, node-if, branch-of, statement-right, items-none, items-more, block-right, else-none, else-block, else-statement}
 use Rattle.mol_resolve_laws.proofs.ExpressionsRight.{typed, gives-expr}
 use Rattle.mol_resolve_laws.proofs.Gives.{Gives, gives-fine, gives-refused, gives-with_faults, gives-mapped, gives-both, gives-beside, gives-given}

@@ -28,17 +28,17 @@ use Rattle.mol_resolve_rules.specs.ReadStatements as statements
 use Rattle.mol_resolve_rules.specs.ReadStatements.{ReadOn, ReadsTo, each, ReadNode, ReadStatement, plain, statement_of, redeclared_faults, declaring, read_exprs, read_maybe, read_declarator, let_of, read_let, super_read, super_if, read_start, else_of, read_initial, read_body, block_reading}
 use Rattle.mol_resolve_rules.specs.ReadTrees.{read_expr}
 use Rattle.mol_resolve_rules.specs.ReadTypes.{ReadType, read_type, seen_type}
-use Rattle.mol_values.specs.declared.iblock.IBlock.{IBlock}
-use Rattle.mol_values.specs.declared.iblock.IBody.{IBody}
-use Rattle.mol_values.specs.declared.iblock.IDeclarator.{IDeclarator}
-use Rattle.mol_values.specs.declared.iblock.IElse.{IElse}
-use Rattle.mol_values.specs.declared.iblock.IElse.TheVariants as elses
-use Rattle.mol_values.specs.declared.iblock.IForStart.{IForStart}
-use Rattle.mol_values.specs.declared.iblock.IForStart.TheVariants as starts
-use Rattle.mol_values.specs.declared.iblock.IStmtNode.{IStmtNode}
-use Rattle.mol_values.specs.declared.iblock.IStmtNode.TheVariants as nodes
-use Rattle.mol_values.specs.declared.iexpr.IExpr.{IExpr}
-use Rattle.mol_values.specs.declared.param.Param.{Param}
+use Rattle.mol_values_types.specs.declared.iblock.IBlock.{IBlock}
+use Rattle.mol_values_types.specs.declared.iblock.IBody.{IBody}
+use Rattle.mol_values_types.specs.declared.iblock.IDeclarator.{IDeclarator}
+use Rattle.mol_values_types.specs.declared.iblock.IElse.{IElse}
+use Rattle.mol_values_types.specs.declared.iblock.IElse.TheVariants as elses
+use Rattle.mol_values_types.specs.declared.iblock.IForStart.{IForStart}
+use Rattle.mol_values_types.specs.declared.iblock.IForStart.TheVariants as starts
+use Rattle.mol_values_types.specs.declared.iblock.IStmtNode.{IStmtNode}
+use Rattle.mol_values_types.specs.declared.iblock.IStmtNode.TheVariants as nodes
+use Rattle.mol_values_types.specs.declared.iexpr.IExpr.{IExpr}
+use Rattle.mol_values_types.specs.declared.param.Param.{Param}
 use Rattle.mol_resolve_laws.proofs.BlocksTidied.{MaybeTidied, DeclaratorTidied, DeclaratorsTidied, LetTidied, StartTidied, ElseTidied, BlockTidied, NodeTidied, StatementTidied, ItemsTidied, tidied-more, tidied-declarator, tidied-let, tidied-Block, tidied-Let, tidied-Do, tidied-While, tidied-For, tidied-Each, tidied-Return, tidied-Throw, tidied-Break, tidied-Continue, tidied-Empty, tidied-Super, tidied-SuperDefault, tidied-SuperOutside, tidied-no_else, tidied-else_block, tidied-If, tidied-block, tidied-statement, tidied-else, same-items}
 use Rattle.mol_resolve_laws.proofs.ExpressionsTidied.{gives-expr}
 use Rattle.mol_resolve_laws.proofs.Gives.{Gives, gives-fine, gives-refused, gives-with_faults, gives-mapped, gives-both, gives-beside, gives-given}

@@ -8,15 +8,15 @@ use Rattle.mol_base.specs.Limits.{max_items}
 use Rattle.mol_base.specs.declared.ident.Id.{Id}
 use Rattle.jav_tree.specs.PrintableExpressions.{ExprUses, value_where, target_where, effect_where}
 use Rattle.mol_resolve_rules.specs.ReadTrees.{with_params}
-use Rattle.mol_table.specs.ExpressionForms as forms
-use Rattle.mol_table.specs.ExpressionForms.{Shape, plain, target, statement, is_value, is_first_value, are_values, are_arguments, shape_of, is_statement}
-use Rattle.mol_table.specs.Mentions as mention
-use Rattle.mol_table.specs.Mentions.{Mention, joined, expr_mentions}
-use Rattle.mol_values.specs.declared.iexpr.Argument.{Argument, fold-Argument}
-use Rattle.mol_values.specs.declared.iexpr.IExpr.{IExpr}
-use Rattle.mol_values.specs.declared.iexpr.IExpr.TheFolds.{fold-roll-IExpr, fold-roll-Argument, map-IExpr}
-use Rattle.mol_values.specs.declared.iexpr.IExpr.TheOpen.{IExpr-F}
-use Rattle.mol_values.specs.declared.iexpr.IExpr.TheViews.{roll-IExpr}
+use Rattle.mol_table_rules.specs.ExpressionForms as forms
+use Rattle.mol_table_rules.specs.ExpressionForms.{Shape, plain, target, statement, is_value, is_first_value, are_values, are_arguments, shape_of, is_statement}
+use Rattle.mol_table_rules.specs.Mentions as mention
+use Rattle.mol_table_rules.specs.Mentions.{Mention, joined, expr_mentions}
+use Rattle.mol_values_types.specs.declared.iexpr.Argument.{Argument, fold-Argument}
+use Rattle.mol_values_types.specs.declared.iexpr.IExpr.{IExpr}
+use Rattle.mol_values_types.specs.declared.iexpr.IExpr.TheFolds.{fold-roll-IExpr, fold-roll-Argument, map-IExpr}
+use Rattle.mol_values_types.specs.declared.iexpr.IExpr.TheOpen.{IExpr-F}
+use Rattle.mol_values_types.specs.declared.iexpr.IExpr.TheViews.{roll-IExpr}
 use Rattle.mol_resolve_laws.proofs.Right.{Passes, passes-both}
 use Rattle.mol_resolve_laws.proofs.Tests.{never, and-imp}
 

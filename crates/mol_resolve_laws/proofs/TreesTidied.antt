@@ -5,18 +5,18 @@ use Rattle.std.specs.List.{AllByRecursion}
 use Rattle.jav_names.specs.DottedNames.{Name}
 use Rattle.mol_base.specs.declared.ident.Id.{Id}
 use Rattle.mol_resolve_rules.specs.ReadTrees.{with_params}
-use Rattle.mol_table.proofs.Tidied as tidied
-use Rattle.mol_table.proofs.Tidied.{argument_is}
-use Rattle.mol_table.specs.Tidy as tidying
-use Rattle.mol_table.specs.Tidy.{arguments_for, creation, tidy_expr, tidy_argument}
-use Rattle.mol_values.specs.declared.iexpr.Argument.{Argument}
-use Rattle.mol_values.specs.declared.iexpr.IExpr.{IExpr}
-use Rattle.mol_values.specs.declared.iexpr.IExpr.TheFolds.{fold-roll-IExpr, map-IExpr}
-use Rattle.mol_values.specs.declared.iexpr.IExpr.TheOpen.{IExpr-F}
-use Rattle.mol_values.specs.declared.iexpr.IExpr.TheVariants as exprs
-use Rattle.mol_values.specs.declared.iexpr.IExpr.TheViews.{roll-IExpr}
-use Rattle.mol_values.specs.declared.itype.IType.{IType}
-use Rattle.mol_values.specs.declared.param.Param.{Param}
+use Rattle.mol_table_rules.proofs.Tidied as tidied
+use Rattle.mol_table_rules.proofs.Tidied.{argument_is}
+use Rattle.mol_table_rules.specs.Tidy as tidying
+use Rattle.mol_table_rules.specs.Tidy.{arguments_for, creation, tidy_expr, tidy_argument}
+use Rattle.mol_values_types.specs.declared.iexpr.Argument.{Argument}
+use Rattle.mol_values_types.specs.declared.iexpr.IExpr.{IExpr}
+use Rattle.mol_values_types.specs.declared.iexpr.IExpr.TheFolds.{fold-roll-IExpr, map-IExpr}
+use Rattle.mol_values_types.specs.declared.iexpr.IExpr.TheOpen.{IExpr-F}
+use Rattle.mol_values_types.specs.declared.iexpr.IExpr.TheVariants as exprs
+use Rattle.mol_values_types.specs.declared.iexpr.IExpr.TheViews.{roll-IExpr}
+use Rattle.mol_values_types.specs.declared.itype.IType.{IType}
+use Rattle.mol_values_types.specs.declared.param.Param.{Param}
 
 module _ (present : Id → List Param) (bare : Id → Option Id) where
   abbrev texpr : IExpr → IExpr

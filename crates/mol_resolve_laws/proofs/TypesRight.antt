@@ -28,15 +28,15 @@ use Rattle.mol_resolve_rules.specs.FaultKinds.{unknown_member}
 use Rattle.mol_resolve_rules.specs.Readers.{Reader}
 use Rattle.mol_resolve_rules.specs.ReadTypes as reading
 use Rattle.mol_resolve_rules.specs.ReadTypes.{ReadType, primitive_types, primitive_tree, named_tree, type_tree, seen_type, type_or_fault, read_type}
-use Rattle.mol_table.specs.Mentions as mentions
-use Rattle.mol_table.specs.Mentions.{Mention, a_class, type_mentions}
-use Rattle.mol_values.specs.TokenForms.{is_dotted, is_empty}
-use Rattle.mol_table.specs.TypeForms.{named_step, dimensions_step, dimensions, void_step, is_void, array_step, is_array, outside_step, class_step}
-use Rattle.mol_values.specs.declared.itype.IType.{IType, fold-IType}
-use Rattle.mol_values.specs.declared.itype.IType.TheFolds.{fold-roll-IType}
-use Rattle.mol_values.specs.declared.itype.IType.TheOpen.{IType-F}
-use Rattle.mol_values.specs.declared.itype.IType.TheVariants as types
-use Rattle.mol_values.specs.declared.itype.IType.TheViews.{roll-IType}
+use Rattle.mol_table_rules.specs.Mentions as mentions
+use Rattle.mol_table_rules.specs.Mentions.{Mention, a_class, type_mentions}
+use Rattle.mol_values_types.specs.TokenForms.{is_dotted, is_empty}
+use Rattle.mol_table_rules.specs.TypeForms.{named_step, dimensions_step, dimensions, void_step, is_void, array_step, is_array, outside_step, class_step}
+use Rattle.mol_values_types.specs.declared.itype.IType.{IType, fold-IType}
+use Rattle.mol_values_types.specs.declared.itype.IType.TheFolds.{fold-roll-IType}
+use Rattle.mol_values_types.specs.declared.itype.IType.TheOpen.{IType-F}
+use Rattle.mol_values_types.specs.declared.itype.IType.TheVariants as types
+use Rattle.mol_values_types.specs.declared.itype.IType.TheViews.{roll-IType}
 use Rattle.mol_resolve_laws.proofs.DottedTexts.{dotted-rest}
 use Rattle.mol_resolve_laws.proofs.Gives.{Gives, gives-fine, gives-refused}
 use Rattle.mol_resolve_laws.proofs.Right.{Passes, ReadsRightly, passes-named}

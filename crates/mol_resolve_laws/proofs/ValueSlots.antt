@@ -12,10 +12,10 @@ use Rattle.mol_resolve_rules.specs.Files.{File, Files, PlacedMember, member_at}
 use Rattle.mol_resolve_rules.specs.Numbering.{Numbered, numbered_class, numbered_member, numbered_method, numbered_param}
 use Rattle.mol_resolve_rules.specs.ReadFiles.{member_reader}
 use Rattle.mol_resolve_rules.specs.Readers.{Reader}
-use Rattle.mol_values.specs.Slots.{slot_of}
-use Rattle.mol_values.specs.declared.cell.Slot.{Slot}
-use Rattle.mol_values.specs.declared.cell.Slot.TheVariants as slots
-use Rattle.mol_values.specs.declared.value.Value.{Value}
+use Rattle.mol_values_types.specs.Slots.{slot_of}
+use Rattle.mol_values_types.specs.declared.cell.Slot.{Slot}
+use Rattle.mol_values_types.specs.declared.cell.Slot.TheVariants as slots
+use Rattle.mol_values_types.specs.declared.value.Value.{Value}
 use Rattle.mol_resolve_laws.proofs.Gives.{none-some}
 
 abbrev HasSlot : Slot → Option Value → Type 0

@@ -16,7 +16,7 @@ use Rattle.jav_names.specs.DottedNames.{Name}
 use Rattle.mol_base.specs.Among.{among}
 use Rattle.mol_base.specs.Modifiers as modifiers
 use Rattle.mol_base.specs.Modifiers.{all_words, constructor_words, abstract_words, kept_words, times, in_order, kept_of_method, has_one_access, AllowedWords}
-use Rattle.mol_values.specs.Words.{are_words}
+use Rattle.mol_values_types.specs.Words.{are_words}
 
 abbrev Texts : Type 0
 Texts = List Name

@@ -4,11 +4,11 @@ use Rattle.std.specs.List.{All, AllPairs}
 use Rattle.mol_resolve_rules.specs.Expected.{known_of, value_of}
 use Rattle.mol_resolve_rules.specs.Files.{Files}
 use Rattle.mol_resolve_rules.specs.Numbering.{Numbered, numbered_param, in_order, id_at}
-use Rattle.mol_table.specs.Program.{Program, nothing}
-use Rattle.mol_table.specs.Writes.{with_entities}
-use Rattle.mol_table.specs.declared.entity.NewEntity.{NewEntity}
-use Rattle.mol_values.specs.Slots.{kind_of_known, slots_of}
-use Rattle.mol_values.specs.declared.known.Known.{Known}
+use Rattle.mol_table_rules.specs.Program.{Program, nothing}
+use Rattle.mol_table_rules.specs.Writes.{with_entities}
+use Rattle.mol_table_rules.specs.declared.entity.NewEntity.{NewEntity}
+use Rattle.mol_values_types.specs.Slots.{kind_of_known, slots_of}
+use Rattle.mol_values_types.specs.declared.known.Known.{Known}
 
 -- A parameter becomes known with the list of its method, and is not added by itself.
 abbrev pub is_added : Numbered → Bool

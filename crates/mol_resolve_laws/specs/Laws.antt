@@ -6,9 +6,9 @@ use Rattle.jav_tree.specs.Widths.{unit_width}
 use Rattle.mol_resolve_laws.specs.Entities.{plain_entities, AreEntities}
 use Rattle.mol_resolve_rules.specs.Files.{File, Files}
 use Rattle.mol_resolve_rules.specs.ReadAs.{FilesReadAs, HasNoFault, IsPlain, KnowsLivingAlone, SourceText, IsParsed}
-use Rattle.mol_table.specs.Program.{Program, nothing}
-use Rattle.mol_table.specs.Writes.{AreNew, with_entities}
-use Rattle.mol_table.specs.declared.entity.NewEntity.{NewEntity}
+use Rattle.mol_table_rules.specs.Program.{Program, nothing}
+use Rattle.mol_table_rules.specs.Writes.{AreNew, with_entities}
+use Rattle.mol_table_rules.specs.declared.entity.NewEntity.{NewEntity}
 
 -- The tree of a file is one that the grammar has, but for parentheses and height: each name, literal and comment in it is one token, no
 -- list of parameters or arguments and no array has too many, and modifiers are allowed where they stand.

@@ -13,10 +13,10 @@ use Rattle.jav_tree.specs.declared.stmt.StmtNode.TheVariants as node
 use Rattle.jav_tree.specs.declared.types.TypeName.TheVariants as names
 use Rattle.jav_names.specs.UnitViews.{MemberKey, header_of}
 use Rattle.jav_names.proofs.ExampleReadings.{cart}
-use Rattle.mol_values.specs.Blocks as by_identity
-use Rattle.mol_values.specs.declared.iblock.IStmtNode.TheVariants as nodes
-use Rattle.mol_values.specs.declared.iexpr.IExpr.TheVariants as exprs
-use Rattle.mol_values.specs.declared.itype.IType.TheVariants as types
+use Rattle.mol_values_types.specs.Blocks as by_identity
+use Rattle.mol_values_types.specs.declared.iblock.IStmtNode.TheVariants as nodes
+use Rattle.mol_values_types.specs.declared.iexpr.IExpr.TheVariants as exprs
+use Rattle.mol_values_types.specs.declared.itype.IType.TheVariants as types
 use Rattle.mol_resolve_rules.specs.Locals.{no_locals}
 use Rattle.mol_resolve_rules.specs.Outcomes.{fine}
 use Rattle.mol_resolve_rules.specs.Readers.{Reader}

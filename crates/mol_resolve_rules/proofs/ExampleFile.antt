@@ -1,12 +1,12 @@
 -- One file, from its tree to its faults and to what its cells are to hold: `int sum(int n, int n) { return x; }` in the class `k.A`.
 use Rattle.std.proofs.Common.{◌≡◌, ℕ, false, [], ◌∷◌, Some, None, codes, refl, sym, ap, ◌∙◌}
-use Rattle.mol_values.specs.declared.cell.Slot.TheVariants as slots
-use Rattle.mol_values.specs.declared.itype.IType.TheFolds.{fold-roll-IType}
-use Rattle.mol_values.specs.declared.itype.IType.TheOpen.{IType-F}
-use Rattle.mol_values.specs.declared.itype.IType.TheVariants as types
-use Rattle.mol_values.specs.declared.kind.MethodKind.TheVariants.{Instance}
-use Rattle.mol_values.specs.declared.known.Known.TheVariants as knowns
-use Rattle.mol_values.specs.declared.value.Value.TheVariants as values
+use Rattle.mol_values_types.specs.declared.cell.Slot.TheVariants as slots
+use Rattle.mol_values_types.specs.declared.itype.IType.TheFolds.{fold-roll-IType}
+use Rattle.mol_values_types.specs.declared.itype.IType.TheOpen.{IType-F}
+use Rattle.mol_values_types.specs.declared.itype.IType.TheVariants as types
+use Rattle.mol_values_types.specs.declared.kind.MethodKind.TheVariants.{Instance}
+use Rattle.mol_values_types.specs.declared.known.Known.TheVariants as knowns
+use Rattle.mol_values_types.specs.declared.value.Value.TheVariants as values
 use Rattle.jav_tree.specs.Blocks.{block_of}
 use Rattle.jav_tree.specs.Expressions.{expr_at}
 use Rattle.jav_tree.specs.declared.expr.Expr.{Expr}

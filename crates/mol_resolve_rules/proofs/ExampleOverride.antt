@@ -1,8 +1,8 @@
 -- A method that is overridden: `Till` extends `Desk`, and both have `String label()`; `Till` has `String name()` too, whose body calls it.
 use Rattle.std.proofs.Common.{◌≡◌, ℕ, false, [], ◌∷◌, Some, None, codes, refl, ap}
-use Rattle.mol_values.specs.declared.cell.Slot.TheVariants as slots
-use Rattle.mol_values.specs.declared.iexpr.IExpr.TheVariants as exprs
-use Rattle.mol_values.specs.declared.value.Value.TheVariants as values
+use Rattle.mol_values_types.specs.declared.cell.Slot.TheVariants as slots
+use Rattle.mol_values_types.specs.declared.iexpr.IExpr.TheVariants as exprs
+use Rattle.mol_values_types.specs.declared.value.Value.TheVariants as values
 use Rattle.jav_tree.specs.Expressions.{expr_at}
 use Rattle.jav_tree.specs.declared.expr.ExprNode.TheVariants as node
 use Rattle.jav_tree.specs.declared.unit.Unit.{Unit as Source}

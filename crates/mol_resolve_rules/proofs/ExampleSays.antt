@@ -1,14 +1,14 @@
 -- Words of a program for one text: which of them says what another says, and static types of worked expressions.
 use Rattle.std.proofs.Common.{◌≡◌, ℕ, [], ◌∷◌, codes, sym, ap, ◌∙◌}
 use Rattle.mol_base.specs.declared.ident.Id.{Id}
-use Rattle.mol_table.specs.Program.{Program}
-use Rattle.mol_values.specs.declared.iexpr.IExpr.{IExpr}
-use Rattle.mol_values.specs.declared.iexpr.IExpr.TheFolds.{fold-roll-IExpr}
-use Rattle.mol_values.specs.declared.iexpr.IExpr.TheOpen.{IExpr-F}
-use Rattle.mol_values.specs.declared.iexpr.IExpr.TheVariants as exprs
-use Rattle.mol_values.specs.declared.itype.IType.TheFolds.{fold-roll-IType}
-use Rattle.mol_values.specs.declared.itype.IType.TheOpen.{IType-F}
-use Rattle.mol_values.specs.declared.itype.IType.TheVariants as types
+use Rattle.mol_table_rules.specs.Program.{Program}
+use Rattle.mol_values_types.specs.declared.iexpr.IExpr.{IExpr}
+use Rattle.mol_values_types.specs.declared.iexpr.IExpr.TheFolds.{fold-roll-IExpr}
+use Rattle.mol_values_types.specs.declared.iexpr.IExpr.TheOpen.{IExpr-F}
+use Rattle.mol_values_types.specs.declared.iexpr.IExpr.TheVariants as exprs
+use Rattle.mol_values_types.specs.declared.itype.IType.TheFolds.{fold-roll-IType}
+use Rattle.mol_values_types.specs.declared.itype.IType.TheOpen.{IType-F}
+use Rattle.mol_values_types.specs.declared.itype.IType.TheVariants as types
 use Rattle.jav_names.specs.DottedNames.{Name}
 use Rattle.jav_names.specs.OnValues.{StaticType, primitive_value, outside_value, class_value, array_value}
 use Rattle.jav_names.specs.StaticTypes.{outside_field}

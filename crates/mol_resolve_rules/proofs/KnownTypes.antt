@@ -18,7 +18,7 @@ use Rattle.mol_resolve_rules.specs.Readers.{Reader}
 use Rattle.mol_resolve_rules.specs.ReadTrees.{arrays, unary_type, binary_type}
 use Rattle.mol_resolve_rules.specs.ReadTypes as reading
 use Rattle.mol_resolve_rules.specs.ReadTypes.{ReadType, named_tree, type_tree, seen_type, type_or_fault, read_type}
-use Rattle.mol_values.specs.declared.itype.IType.{IType}
+use Rattle.mol_values_types.specs.declared.itype.IType.{IType}
 use Rattle.mol_resolve_rules.proofs.Whole.{IsWhole, whole-fine, whole-refused}
 
 -- ---- types as written

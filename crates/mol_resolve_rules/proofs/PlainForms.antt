@@ -3,12 +3,11 @@ use Rattle.std.proofs.Common.{◌≡◌, Bool, true, false, Option, Some, None, 
 use Rattle.std.specs.FinMap.{get, same_map}
 use Rattle.mol_base.specs.Order.{id_cmp-total, id_cmp-IsAntisymmetric}
 use Rattle.mol_base.specs.declared.ident.Id.{Id}
-use Rattle.mol_table.specs.Program.{Program, value_at}
-use Rattle.mol_table.specs.Rules.{IsProgram}
-use Rattle.mol_table.proofs.CellOrder.{cell_cmp-total, cell_cmp-IsAntisymmetric}
-use Rattle.mol_values.specs.Slots.{has_slot}
-use Rattle.mol_values.specs.declared.cell.Slot.{Slot}
-use Rattle.mol_values.specs.declared.known.Known.{Known}
+use Rattle.mol_table_rules.specs.Program.{Program, value_at}
+use Rattle.mol_table_rules.proofs.CellOrder.{cell_cmp-total, cell_cmp-IsAntisymmetric}
+use Rattle.mol_values_types.specs.Slots.{has_slot}
+use Rattle.mol_values_types.specs.declared.cell.Slot.{Slot}
+use Rattle.mol_values_types.specs.declared.known.Known.{Known}
 use Rattle.mol_resolve_rules.specs.Expected.{known_of, value_of}
 use Rattle.mol_resolve_rules.specs.Files.{Files}
 use Rattle.mol_resolve_rules.specs.Laws.{PlainForms}
@@ -46,15 +45,14 @@ module _ (files : Files) where
       subst (λ here. value_at program here slot ≡ value_of files item slot) at
       (held.holds ∙ ap (λ value. Some value) held.agree ∙ sym held.says)
 
-  module _ (first second : Program) (ruled : IsProgram first) (other-ruled : IsProgram second) (plain : IsPlain files first)
-      (other : IsPlain files second) where
+  module _ (first second : Program) (plain : IsPlain files first) (other : IsPlain files second) where
     cell-same : (id : Id) (slot : Slot) → value_at first id slot ≡ value_at second id slot
     cell-same id slot = by (get first.known id) refl (has_slot (get first.known id) slot) refl where
       -- neither has such a cell
       neither : has_slot (get first.known id) slot ≡ false → value_at first id slot ≡ value_at second id slot
-      neither lacks = none-is (value_at first id slot) (ruled.whole id slot ∙ lacks)
+      neither lacks = none-is (value_at first id slot) (plain.whole id slot ∙ lacks)
           ∙ sym (none-is (value_at second id slot)
-          (other-ruled.whole id slot ∙ ap (λ known. has_slot known slot) (sym (known-same first second plain other id)) ∙ lacks))
+          (other.whole id slot ∙ ap (λ known. has_slot known slot) (sym (known-same first second plain other id)) ∙ lacks))
 
       by : (known : Option Known) → get first.known id ≡ known → (b : Bool) → has_slot (get first.known id) slot ≡ b
           → value_at first id slot ≡ value_at second id slot

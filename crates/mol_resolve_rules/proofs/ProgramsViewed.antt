@@ -8,9 +8,9 @@ use Rattle.std.specs.List.Sorted.{IsStrictlySortedBy}
 use Rattle.std.specs.Ordering.{on, is_lt}
 use Rattle.mol_base.specs.Order.{id_cmp, id_cmp-total, id_cmp-IsAntisymmetric}
 use Rattle.mol_base.specs.declared.ident.Id.{Id}
-use Rattle.mol_table.specs.Program.{Program, living_at, owner_at}
-use Rattle.mol_values.specs.declared.known.Known.{Known}
-use Rattle.mol_values.specs.declared.known.Known.TheVariants as knowns
+use Rattle.mol_table_rules.specs.Program.{Program, living_at, owner_at}
+use Rattle.mol_values_types.specs.declared.known.Known.{Known}
+use Rattle.mol_values_types.specs.declared.known.Known.TheVariants as knowns
 use Rattle.jav_names.specs.Views.{ViewClass, ViewField, ViewDeclaration, IsKeyOrder, IsOrdered}
 use Rattle.mol_resolve_rules.specs.Laws.{ProgramsViewed}
 use Rattle.mol_resolve_rules.specs.ProgramViews.{living_class, field_of, living_field, declaration_of, living_declaration, program_view}

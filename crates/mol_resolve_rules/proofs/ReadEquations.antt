@@ -17,9 +17,9 @@ use Rattle.jav_tree.specs.declared.types.TypeName.TheFolds.{fold-roll-TypeName}
 use Rattle.jav_tree.specs.declared.types.TypeName.TheOpen.{TypeName-F}
 use Rattle.jav_tree.specs.declared.types.TypeName.TheVariants as types
 use Rattle.jav_names.specs.DottedNames.{Name}
-use Rattle.mol_values.specs.declared.iblock.IBlock.{IBlock}
-use Rattle.mol_values.specs.declared.iblock.IElse.{IElse}
-use Rattle.mol_values.specs.declared.itype.IType.{IType}
+use Rattle.mol_values_types.specs.declared.iblock.IBlock.{IBlock}
+use Rattle.mol_values_types.specs.declared.iblock.IElse.{IElse}
+use Rattle.mol_values_types.specs.declared.itype.IType.{IType}
 use Rattle.mol_resolve_rules.specs.Locals.{Locals}
 use Rattle.mol_resolve_rules.specs.Outcomes.{mapped}
 use Rattle.mol_resolve_rules.specs.Readers.{Reader}

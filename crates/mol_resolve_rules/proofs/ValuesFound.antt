@@ -28,15 +28,15 @@ use Rattle.mol_resolve_rules.specs.ReadFiles.{file_reader, parameter_of, declare
 use Rattle.mol_resolve_rules.specs.ReadStatements.{read_body, read_initial}
 use Rattle.mol_resolve_rules.specs.ReadTypes.{ReadType, read_type, seen_type}
 use Rattle.mol_resolve_rules.specs.ResolveFaults.{in_tree}
-use Rattle.mol_values.specs.Slots.{has_slot}
-use Rattle.mol_values.specs.declared.cell.Slot.{Slot}
-use Rattle.mol_values.specs.declared.cell.Slot.TheVariants as slots
-use Rattle.mol_values.specs.declared.known.Known.{Known}
-use Rattle.mol_values.specs.declared.known.Known.TheVariants as knowns
-use Rattle.mol_values.specs.declared.kind.MethodKind.{MethodKind}
-use Rattle.mol_values.specs.declared.iexpr.IExpr.{IExpr}
-use Rattle.mol_values.specs.declared.value.Value.{Value}
-use Rattle.mol_values.specs.declared.value.Value.TheVariants as values
+use Rattle.mol_values_types.specs.Slots.{has_slot}
+use Rattle.mol_values_types.specs.declared.cell.Slot.{Slot}
+use Rattle.mol_values_types.specs.declared.cell.Slot.TheVariants as slots
+use Rattle.mol_values_types.specs.declared.known.Known.{Known}
+use Rattle.mol_values_types.specs.declared.known.Known.TheVariants as knowns
+use Rattle.mol_values_types.specs.declared.kind.MethodKind.{MethodKind}
+use Rattle.mol_values_types.specs.declared.iexpr.IExpr.{IExpr}
+use Rattle.mol_values_types.specs.declared.value.Value.{Value}
+use Rattle.mol_values_types.specs.declared.value.Value.TheVariants as values
 use Rattle.mol_resolve_rules.proofs.FilesStand.{StandsAt, files-ordered, found-stands, declaration-made, get-unit, made-found, member-found, from-by_path, from-keys}
 use Rattle.mol_resolve_rules.proofs.KnownTypes.{IsRead, type-whole}
 use Rattle.mol_resolve_rules.proofs.Stands.{in_either, from_map, from_each, from_some, from_numbered, in_numbered}

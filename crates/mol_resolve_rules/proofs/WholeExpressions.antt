@@ -16,8 +16,8 @@ use Rattle.mol_resolve_rules.specs.Outcomes.{mapped, over, both, put_first, all}
 use Rattle.mol_resolve_rules.specs.Readers.{Reader}
 use Rattle.mol_resolve_rules.specs.ReadTrees.{Meant, Mode, Reading, longer, ClassPath, whole_path, front_path, no_path, path_of, arrays, unary_type, binary_type, meant, alone, values_of, field_meant, dot_meant, call_here, call_through, call_on, call_meant, super_call, created, index_meant, choice, node_step, expr_step, reading, read_expr}
 use Rattle.mol_resolve_rules.specs.ReadTypes.{ReadType, read_type}
-use Rattle.mol_values.specs.declared.iexpr.IExpr.{IExpr}
-use Rattle.mol_values.specs.declared.iexpr.IExpr.TheVariants as exprs
+use Rattle.mol_values_types.specs.declared.iexpr.IExpr.{IExpr}
+use Rattle.mol_values_types.specs.declared.iexpr.IExpr.TheVariants as exprs
 use Rattle.mol_resolve_rules.proofs.KnownTypes.{IsRead, type-whole, known-of_type, known-arrays, known-of_literal, known-unary, known-binary, known-common}
 use Rattle.mol_resolve_rules.proofs.Whole.{IsWhole, Any, whole-fine, whole-refused, whole-mapped, whole-both, whole-over, whole-beside}
 use Rattle.mol_resolve_rules.proofs.WholeNames.{ReadsKnown, KnownLocals, IsKnown, whole-valued, whole-name_alone, whole-name_before, never_front, never_front_of_call, whole-static_field, whole-field_on, whole-call_here, whole-call_through, whole-call_on, whole-super_call, whole-created, whole-index}

@@ -22,8 +22,8 @@ use Rattle.mol_resolve_rules.specs.Outcomes.{Outcome, refused, over}
 use Rattle.mol_resolve_rules.specs.Readers.{Parameter, Reader, param_names, place_of}
 use Rattle.mol_resolve_rules.specs.ReadTrees.{Meant, longer, whole_path, front_path, no_path, path_by, path_of, valued, meant, local_meant, param_meant, field_word, variable_meant, name_alone, name_before, static_field_meant, field_on_word, field_meant, arguments_of, static_call, own_call, call_here, call_through, call_on, super_call, class_created, created, index_meant}
 use Rattle.mol_resolve_rules.specs.ReadTypes.{ReadType}
-use Rattle.mol_values.specs.declared.iexpr.IExpr.{IExpr}
-use Rattle.mol_values.specs.declared.iexpr.IExpr.TheVariants as exprs
+use Rattle.mol_values_types.specs.declared.iexpr.IExpr.{IExpr}
+use Rattle.mol_values_types.specs.declared.iexpr.IExpr.TheVariants as exprs
 use Rattle.mol_resolve_rules.proofs.KnownTypes.{has_unread, known-of_type, known-outside_field, known-outside_call, known-item}
 use Rattle.mol_resolve_rules.proofs.Stands.{in_place}
 use Rattle.mol_resolve_rules.proofs.Whole.{IsWhole, whole-fine, whole-refused}

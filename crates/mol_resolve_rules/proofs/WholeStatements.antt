@@ -29,10 +29,10 @@ use Rattle.mol_resolve_rules.specs.ReadStatements as statements
 use Rattle.mol_resolve_rules.specs.ReadStatements.{ReadOn, ReadsTo, declaring_none, mapped_on, followed_by, then_next, each, in_block, ReadNode, ReadStatement, plain, statement_of, branching, redeclared_faults, declaring, read_exprs, read_maybe, read_declarator, let_of, read_let, super_read, super_if, read_start, read_header, read_each, else_of, read_initial, read_body, block_reading}
 use Rattle.mol_resolve_rules.specs.ReadTrees.{read_expr}
 use Rattle.mol_resolve_rules.specs.ReadTypes.{ReadType, read_type, seen_type}
-use Rattle.mol_values.specs.declared.iblock.IBlock.{IBlock}
-use Rattle.mol_values.specs.declared.iblock.IElse.{IElse}
-use Rattle.mol_values.specs.declared.iblock.IForStart.TheVariants as starts
-use Rattle.mol_values.specs.declared.iexpr.IExpr.{IExpr}
+use Rattle.mol_values_types.specs.declared.iblock.IBlock.{IBlock}
+use Rattle.mol_values_types.specs.declared.iblock.IElse.{IElse}
+use Rattle.mol_values_types.specs.declared.iblock.IForStart.TheVariants as starts
+use Rattle.mol_values_types.specs.declared.iexpr.IExpr.{IExpr}
 use Rattle.mol_resolve_rules.proofs.KnownTypes.{IsRead, type-whole}
 use Rattle.mol_resolve_rules.proofs.ReadEquations.{statement}
 use Rattle.mol_resolve_rules.proofs.Stands.{in_either}

@@ -9,12 +9,11 @@ use Rattle.mol_resolve_rules.specs.Numbering.{Numbered, in_order, id_at}
 use Rattle.mol_resolve_rules.specs.ProgramViews.{program_view}
 use Rattle.mol_resolve_rules.specs.ReadAs.{HasNoFault, HoldsWhatIsSaid, MethodsByName, IsPlain}
 use Rattle.mol_resolve_rules.specs.ResolveFaults.{Fails, HavePathsApart, IsFirstFault}
-use Rattle.mol_table.specs.Program.{Program}
-use Rattle.mol_table.specs.Rules.{IsProgram}
-use Rattle.mol_values.specs.Slots.{has_slot}
-use Rattle.mol_values.specs.declared.cell.Slot.{Slot}
-use Rattle.mol_values.specs.declared.known.Known.{Known}
-use Rattle.mol_values.specs.declared.value.Value.{Value}
+use Rattle.mol_table_rules.specs.Program.{Program}
+use Rattle.mol_values_types.specs.Slots.{has_slot}
+use Rattle.mol_values_types.specs.declared.cell.Slot.{Slot}
+use Rattle.mol_values_types.specs.declared.known.Known.{Known}
+use Rattle.mol_values_types.specs.declared.value.Value.{Value}
 
 -- The view of a program ascends by its keys, so that the rules on names have exactly one answer over it.
 pub record ProgramsViewed : Type 0 where
@@ -46,8 +45,7 @@ pub record FirstFaults : Type 0 where
       → IsFirstFault files kind number at → IsFirstFault files other second place
       → (kind ≡ other) × (number ≡ second) × (at ≡ place)
 
--- A program in plain form holds what the files say, and files read as at most one program in plain form.
+-- A program in plain form holds what the files say, and there is at most one program in plain form of the same files.
 pub record PlainForms : Type 0 where
   pub holds : (files : Files) (program : Program) → IsPlain files program → HoldsWhatIsSaid files program
-  pub unique : (files : Files) (first second : Program) → IsProgram first → IsProgram second → IsPlain files first
-      → IsPlain files second → first ≡ second
+  pub unique : (files : Files) (first second : Program) → IsPlain files first → IsPlain files second → first ≡ second

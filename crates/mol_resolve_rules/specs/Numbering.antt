@@ -7,7 +7,7 @@ use Rattle.std.specs.Ordering.{nat_cmp, is_lt, is_eq}
 use Rattle.std.specs.Cmp.Lexicographic.{slice_cmp}
 use Rattle.std.specs.declared.cmp.Ordering.{Ordering}
 use Rattle.mol_base.specs.declared.ident.Id.{Id}
-use Rattle.mol_table.specs.Renumber.{base_id}
+use Rattle.mol_table_rules.specs.Renumber.{base_id}
 use Rattle.jav_names.specs.DottedNames.{Name}
 use Rattle.jav_names.specs.LookUps.{is_constructor, is_method, nearest, way}
 use Rattle.jav_names.specs.UnitViews.{MemberKey, member_key_cmp, numbered}

@@ -4,9 +4,9 @@ use Rattle.std.specs.Prelude.{false, List, [], ◌++◌, map, Option, option_map
 use Rattle.std.specs.FinMap.{get}
 use Rattle.std.specs.Option.{option_and_then}
 use Rattle.mol_base.specs.declared.ident.Id.{Id}
-use Rattle.mol_table.specs.Program.{Program, package_at, owner_at, params_at}
-use Rattle.mol_values.specs.declared.known.Known.{Known}
-use Rattle.mol_values.specs.declared.param.Param.{Param}
+use Rattle.mol_table_rules.specs.Program.{Program, package_at, owner_at, params_at}
+use Rattle.mol_values_types.specs.declared.known.Known.{Known}
+use Rattle.mol_values_types.specs.declared.param.Param.{Param}
 use Rattle.jav_tree.specs.declared.unit.Member.{Member}
 use Rattle.jav_names.specs.DottedNames.{Names}
 use Rattle.jav_names.specs.LookUps.{is_constructor}

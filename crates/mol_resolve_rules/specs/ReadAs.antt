@@ -7,19 +7,19 @@ use Rattle.mol_base.specs.Source.{IsSource}
 use Rattle.mol_base.specs.Token.{Token}
 use Rattle.mol_base.specs.declared.ident.Id.{Id}
 use Rattle.mol_base.specs.declared.limit.Which.TheVariants.{Height}
-use Rattle.mol_table.specs.Life.{lives}
-use Rattle.mol_table.specs.Program.{Program, value_at}
-use Rattle.mol_table.specs.Tidy.{tidy}
-use Rattle.mol_values.specs.Slots.{has_slot}
-use Rattle.mol_values.specs.declared.cell.Slot.{Slot}
-use Rattle.mol_values.specs.declared.cell.Slot.TheVariants as slots
-use Rattle.mol_values.specs.declared.iexpr.IExpr.{IExpr}
-use Rattle.mol_values.specs.declared.itype.IType.{IType}
-use Rattle.mol_values.specs.declared.iblock.IBlock.{IBlock}
-use Rattle.mol_values.specs.declared.known.Known.{Known}
-use Rattle.mol_values.specs.declared.param.Param.{Param}
-use Rattle.mol_values.specs.declared.value.Value.{Value}
-use Rattle.mol_values.specs.declared.value.Value.TheVariants as values
+use Rattle.mol_table_rules.specs.Life.{lives}
+use Rattle.mol_table_rules.specs.Program.{Program, value_at}
+use Rattle.mol_table_rules.specs.Tidy.{tidy}
+use Rattle.mol_values_types.specs.Slots.{has_slot}
+use Rattle.mol_values_types.specs.declared.cell.Slot.{Slot}
+use Rattle.mol_values_types.specs.declared.cell.Slot.TheVariants as slots
+use Rattle.mol_values_types.specs.declared.iexpr.IExpr.{IExpr}
+use Rattle.mol_values_types.specs.declared.itype.IType.{IType}
+use Rattle.mol_values_types.specs.declared.iblock.IBlock.{IBlock}
+use Rattle.mol_values_types.specs.declared.known.Known.{Known}
+use Rattle.mol_values_types.specs.declared.param.Param.{Param}
+use Rattle.mol_values_types.specs.declared.value.Value.{Value}
+use Rattle.mol_values_types.specs.declared.value.Value.TheVariants as values
 use Rattle.jav_tree.specs.Trees.{IsUnit}
 use Rattle.jav_names.specs.DottedNames.{Name}
 use Rattle.jav_names.specs.Standing.{IsMethodOf}
@@ -119,11 +119,12 @@ pub record FilesReadAs (files : Files) (program : Program) : Type 0 where
   pub tidied : tidy program ≡ program
   pub all_live : KnowsLivingAlone program
 
--- The program is in plain form: where it could say the same in several words it has those that reading gives, and fillers are those of the
--- types of parameters.
+-- The program is in plain form: each identity has exactly the cells of its kind; where the program could say the same in several words it
+-- has those that reading gives, and fillers are those of the types of parameters.
 pub record IsPlain (files : Files) (program : Program) : Type 0 where
   pub no_fault : HasNoFault files
   pub numbered : IsNumbered files program
+  pub whole : (id : Id) (slot : Slot) → is_some (value_at program id slot) ≡ has_slot (get program.known id) slot
   pub holds : HoldsAll (λ said held. held ≡ said) files program
 
 -- ---- texts that do

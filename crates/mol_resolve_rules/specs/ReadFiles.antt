@@ -19,8 +19,8 @@ use Rattle.mol_resolve_rules.specs.Outcomes.{TreeFault, Outcome, both, all, mayb
 use Rattle.mol_resolve_rules.specs.Readers.{Parameter, Reader}
 use Rattle.mol_resolve_rules.specs.ReadStatements.{read_initial, read_body}
 use Rattle.mol_resolve_rules.specs.ReadTypes.{ReadType, read_type, seen_type}
-use Rattle.mol_values.specs.declared.iblock.IBody.{IBody}
-use Rattle.mol_values.specs.declared.iexpr.IExpr.{IExpr}
+use Rattle.mol_values_types.specs.declared.iblock.IBody.{IBody}
+use Rattle.mol_values_types.specs.declared.iexpr.IExpr.{IExpr}
 
 -- ---- readers
 

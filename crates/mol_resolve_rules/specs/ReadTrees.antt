@@ -20,9 +20,9 @@ use Rattle.mol_resolve_rules.specs.Locals.{Locals}
 use Rattle.mol_resolve_rules.specs.Outcomes.{Outcome, fine, silent, refused, mapped, over, given, beside, both, all}
 use Rattle.mol_resolve_rules.specs.Readers.{Parameter, Reader, place_of}
 use Rattle.mol_resolve_rules.specs.ReadTypes.{ReadType, read_type}
-use Rattle.mol_values.specs.declared.iexpr.Argument.{Argument}
-use Rattle.mol_values.specs.declared.iexpr.IExpr.{IExpr}
-use Rattle.mol_values.specs.declared.iexpr.IExpr.TheVariants as exprs
+use Rattle.mol_values_types.specs.declared.iexpr.Argument.{Argument}
+use Rattle.mol_values_types.specs.declared.iexpr.IExpr.{IExpr}
+use Rattle.mol_values_types.specs.declared.iexpr.IExpr.TheVariants as exprs
 
 -- ---- what is read
 

@@ -12,8 +12,8 @@ use Rattle.jav_names.specs.Views.{ViewType}
 use Rattle.mol_resolve_rules.specs.FaultKinds.{unknown_member}
 use Rattle.mol_resolve_rules.specs.Outcomes.{Outcome, fine, refused}
 use Rattle.mol_resolve_rules.specs.Readers.{Reader}
-use Rattle.mol_values.specs.declared.itype.IType.{IType}
-use Rattle.mol_values.specs.declared.itype.IType.TheVariants as types
+use Rattle.mol_values_types.specs.declared.itype.IType.{IType}
+use Rattle.mol_values_types.specs.declared.itype.IType.TheVariants as types
 
 -- the primitive types (JLS 4.2), but for `float` and `double`
 abbrev pub primitive_types : List (String × IType)

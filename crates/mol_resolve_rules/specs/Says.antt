@@ -4,13 +4,13 @@
 -- the same in either.
 use Rattle.std.specs.Prelude.{◌≡◌, ℕ, Bool, true, false, IsTrue, List, [], ◌∷◌, ◌++◌, Option, Some, None, option_map}
 use Rattle.mol_base.specs.declared.ident.Id.{Id}
-use Rattle.mol_values.specs.declared.iexpr.Argument.{Argument}
-use Rattle.mol_values.specs.declared.iexpr.IExpr.{IExpr, fold-IExpr}
-use Rattle.mol_values.specs.declared.iexpr.IExpr.TheOpen.{IExpr-F, Argument-F}
-use Rattle.mol_values.specs.declared.iexpr.IExpr.TheVariants as exprs
-use Rattle.mol_values.specs.declared.itype.IType.{IType, fold-IType}
-use Rattle.mol_values.specs.declared.itype.IType.TheOpen.{IType-F}
-use Rattle.mol_values.specs.declared.itype.IType.TheVariants as types
+use Rattle.mol_values_types.specs.declared.iexpr.Argument.{Argument}
+use Rattle.mol_values_types.specs.declared.iexpr.IExpr.{IExpr, fold-IExpr}
+use Rattle.mol_values_types.specs.declared.iexpr.IExpr.TheOpen.{IExpr-F, Argument-F}
+use Rattle.mol_values_types.specs.declared.iexpr.IExpr.TheVariants as exprs
+use Rattle.mol_values_types.specs.declared.itype.IType.{IType, fold-IType}
+use Rattle.mol_values_types.specs.declared.itype.IType.TheOpen.{IType-F}
+use Rattle.mol_values_types.specs.declared.itype.IType.TheVariants as types
 use Rattle.jav_names.specs.DottedNames.{Name, dot, cut}
 use Rattle.jav_names.specs.TypeTexts.{imported_text}
 

@@ -3,15 +3,15 @@ use Rattle.std.specs.Prelude.{◌+◌, List, length, Option, Some, find, slice_g
 use Rattle.std.specs.FinMap.{entries}
 use Rattle.std.specs.Option.{option_map_or, option_and_then}
 use Rattle.mol_base.specs.declared.ident.Id.{Id}
-use Rattle.mol_table.specs.Life.{is_decl_of}
-use Rattle.mol_table.specs.Program.{Program, same_id, value_at, owner_at, params_at, method_of_param}
-use Rattle.mol_values.specs.declared.cell.Slot.TheVariants as slots
-use Rattle.mol_values.specs.declared.iexpr.IExpr.{IExpr, fold-IExpr}
-use Rattle.mol_values.specs.declared.iexpr.IExpr.TheOpen.{IExpr-F, Argument-F}
-use Rattle.mol_values.specs.declared.known.Known.{Known}
-use Rattle.mol_values.specs.declared.param.Param.{Param}
-use Rattle.mol_values.specs.declared.value.Value.{Value}
-use Rattle.mol_values.specs.declared.value.Value.TheVariants as values
+use Rattle.mol_table_rules.specs.Life.{is_decl_of}
+use Rattle.mol_table_rules.specs.Program.{Program, same_id, value_at, owner_at, params_at, method_of_param}
+use Rattle.mol_values_types.specs.declared.cell.Slot.TheVariants as slots
+use Rattle.mol_values_types.specs.declared.iexpr.IExpr.{IExpr, fold-IExpr}
+use Rattle.mol_values_types.specs.declared.iexpr.IExpr.TheOpen.{IExpr-F, Argument-F}
+use Rattle.mol_values_types.specs.declared.known.Known.{Known}
+use Rattle.mol_values_types.specs.declared.param.Param.{Param}
+use Rattle.mol_values_types.specs.declared.value.Value.{Value}
+use Rattle.mol_values_types.specs.declared.value.Value.TheVariants as values
 use Rattle.jav_names.specs.OnValues.{StaticType, primitive_value, mixed_value, outside_value, class_value}
 use Rattle.jav_names.specs.StaticTypes.{of_type, of_literal, common, item, outside_field, outside_call}
 use Rattle.jav_names.specs.Views.{ViewType}

@@ -18,9 +18,9 @@ use Rattle.mol_resolve_stmt.proofs.StatementNodes.{twice-on}
 use Rattle.mol_resolve_stmt.specs.GoesOn.{GoesOn}
 use Rattle.mol_resolve_stmt.specs.Made as made
 use Rattle.mol_resolve_stmt.specs.Statements.{stmt_reading, node_reading, node_of, statement_of, statements_of}
-use Rattle.mol_values.specs.declared.iblock.IBlock.{IBlock}
-use Rattle.mol_values.specs.declared.iblock.IStmt.{IStmt}
-use Rattle.mol_values.specs.declared.iblock.IStmtNode.{IStmtNode}
+use Rattle.mol_values_types.specs.declared.iblock.IBlock.{IBlock}
+use Rattle.mol_values_types.specs.declared.iblock.IStmt.{IStmt}
+use Rattle.mol_values_types.specs.declared.iblock.IStmtNode.{IStmtNode}
 
 first-each : {A B : Type 0} (f : A → B) (value : Option A) (rest : Option (List A))
     → option_map put_first (option_zip (option_map f value) (option_map (map f) rest))

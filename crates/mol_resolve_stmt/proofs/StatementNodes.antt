@@ -25,11 +25,11 @@ use Rattle.mol_resolve_rules.specs.ReadTypes.{ReadType, read_type, seen_type}
 use Rattle.mol_resolve_stmt.specs.Loops.{each_header, each_part, for_header, for_part, loop_by, loop_node, while_header, while_part}
 use Rattle.mol_resolve_stmt.specs.Made as made
 use Rattle.mol_resolve_stmt.specs.Statements.{else_reading, node_of, branches_of}
-use Rattle.mol_values.specs.declared.iblock.IBlock.{IBlock}
-use Rattle.mol_values.specs.declared.iblock.IForStart.{IForStart}
-use Rattle.mol_values.specs.declared.iblock.IStmtNode.{IStmtNode}
-use Rattle.mol_values.specs.declared.iblock.IStmtNode.TheVariants as nodes
-use Rattle.mol_values.specs.declared.iexpr.IExpr.{IExpr}
+use Rattle.mol_values_types.specs.declared.iblock.IBlock.{IBlock}
+use Rattle.mol_values_types.specs.declared.iblock.IForStart.{IForStart}
+use Rattle.mol_values_types.specs.declared.iblock.IStmtNode.{IStmtNode}
+use Rattle.mol_values_types.specs.declared.iblock.IStmtNode.TheVariants as nodes
+use Rattle.mol_values_types.specs.declared.iexpr.IExpr.{IExpr}
 
 -- # Twice
 

@@ -12,7 +12,7 @@ use Rattle.mol_resolve_rules.specs.Readers.{Reader}
 use Rattle.mol_resolve_rules.specs.ReadStatements.{read_exprs, read_maybe}
 use Rattle.mol_resolve_rules.specs.ReadTrees.{Meant, Reading, alone, read_expr, reading}
 use Rattle.mol_resolve_stmt.specs.Made.{tree_part}
-use Rattle.mol_values.specs.declared.iexpr.IExpr.{IExpr}
+use Rattle.mol_values_types.specs.declared.iexpr.IExpr.{IExpr}
 
 module _ (reader : Reader ℕ MemberKey) (locals : Locals ℕ) where
   pub tree_read : (e : Expr) (value : Option (Meant ℕ)) (first next : Option TreeFault) → Reads (alone_of reader locals e) value first next

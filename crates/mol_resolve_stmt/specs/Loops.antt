@@ -16,11 +16,11 @@ use Rattle.mol_resolve_stmt.specs.declared.headers.Header.{Header}
 use Rattle.mol_resolve_stmt.specs.declared.headers.Header.TheVariants as header
 use Rattle.mol_resolve_stmt.specs.declared.loops.Loop.{Loop}
 use Rattle.mol_resolve_stmt.specs.declared.loops.Loop.TheVariants as loop
-use Rattle.mol_values.specs.declared.iblock.IBlock.{IBlock}
-use Rattle.mol_values.specs.declared.iblock.IForStart.{IForStart}
-use Rattle.mol_values.specs.declared.iblock.IStmtNode.{IStmtNode}
-use Rattle.mol_values.specs.declared.iblock.IStmtNode.TheVariants as nodes
-use Rattle.mol_values.specs.declared.iexpr.IExpr.{IExpr}
+use Rattle.mol_values_types.specs.declared.iblock.IBlock.{IBlock}
+use Rattle.mol_values_types.specs.declared.iblock.IForStart.{IForStart}
+use Rattle.mol_values_types.specs.declared.iblock.IStmtNode.{IStmtNode}
+use Rattle.mol_values_types.specs.declared.iblock.IStmtNode.TheVariants as nodes
+use Rattle.mol_values_types.specs.declared.iexpr.IExpr.{IExpr}
 
 -- a header with a body
 abbrev pub with_body : Header → IBlock → IStmtNode

@@ -2,16 +2,16 @@
 use Rattle.std.specs.Prelude.{ℕ, List, [], ◌∷◌, ◌++◌, Option, option_map}
 use Rattle.jav_names.specs.DottedNames.{Name}
 use Rattle.mol_resolve_rules.specs.ReadTrees.{Meant}
-use Rattle.mol_values.specs.Blocks.{block_of, branch_of}
-use Rattle.mol_values.specs.declared.iblock.IBlock.{IBlock}
-use Rattle.mol_values.specs.declared.iblock.IBody.{IBody}
-use Rattle.mol_values.specs.declared.iblock.IDeclarator.{IDeclarator}
-use Rattle.mol_values.specs.declared.iblock.IElse.{IElse}
-use Rattle.mol_values.specs.declared.iblock.IElse.TheVariants as elses
-use Rattle.mol_values.specs.declared.iblock.IIf.{IIf}
-use Rattle.mol_values.specs.declared.iblock.IStmt.{IStmt}
-use Rattle.mol_values.specs.declared.iblock.IStmtNode.{IStmtNode}
-use Rattle.mol_values.specs.declared.iexpr.IExpr.{IExpr}
+use Rattle.mol_values_types.specs.Blocks.{block_of, branch_of}
+use Rattle.mol_values_types.specs.declared.iblock.IBlock.{IBlock}
+use Rattle.mol_values_types.specs.declared.iblock.IBody.{IBody}
+use Rattle.mol_values_types.specs.declared.iblock.IDeclarator.{IDeclarator}
+use Rattle.mol_values_types.specs.declared.iblock.IElse.{IElse}
+use Rattle.mol_values_types.specs.declared.iblock.IElse.TheVariants as elses
+use Rattle.mol_values_types.specs.declared.iblock.IIf.{IIf}
+use Rattle.mol_values_types.specs.declared.iblock.IStmt.{IStmt}
+use Rattle.mol_values_types.specs.declared.iblock.IStmtNode.{IStmtNode}
+use Rattle.mol_values_types.specs.declared.iexpr.IExpr.{IExpr}
 
 -- one more item after others
 abbrev pub put_last : {A : Type 0} → List A × A → List A

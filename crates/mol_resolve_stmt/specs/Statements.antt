@@ -10,11 +10,11 @@ use Rattle.mol_resolve_rules.specs.Readers.{Reader}
 use Rattle.mol_resolve_rules.specs.ReadStatements.{ReadsTo, ReadNode, ReadStatement, mapped_on, then_next, declaring_none, each, else_of, else_step, node_step, block_step, stmt_step, block_reading}
 use Rattle.mol_resolve_rules.specs.ReadTrees.{read_expr}
 use Rattle.mol_resolve_stmt.specs.Made.{branches}
-use Rattle.mol_values.specs.declared.iblock.IBlock.{IBlock}
-use Rattle.mol_values.specs.declared.iblock.IElse.{IElse}
-use Rattle.mol_values.specs.declared.iblock.IIf.{IIf}
-use Rattle.mol_values.specs.declared.iblock.IStmt.{IStmt}
-use Rattle.mol_values.specs.declared.iblock.IStmtNode.{IStmtNode}
+use Rattle.mol_values_types.specs.declared.iblock.IBlock.{IBlock}
+use Rattle.mol_values_types.specs.declared.iblock.IElse.{IElse}
+use Rattle.mol_values_types.specs.declared.iblock.IIf.{IIf}
+use Rattle.mol_values_types.specs.declared.iblock.IStmt.{IStmt}
+use Rattle.mol_values_types.specs.declared.iblock.IStmtNode.{IStmtNode}
 
 module _ (reader : Reader ℕ MemberKey) where
   abbrev pub stmt_reading : Stmt → ReadsTo ℕ ReadStatement

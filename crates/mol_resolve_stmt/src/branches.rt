@@ -10,7 +10,7 @@ use jav_tree::{Block, Else, Expr, Stmt, StmtNode};
 use mol_base::OutOfMemory;
 use mol_resolve_faults::FirstFault;
 use mol_resolve_readings::{Locals, Names};
-use mol_values::{IElse, IIf};
+use mol_values_types::{IElse, IIf};
 
 impl<N: Names> StmtReader<'_, N> {
     /// The branches of an `if`.

@@ -10,7 +10,7 @@ ghost use Rattle.mol_resolve_rules.specs.Readers.{param_names};
 ghost use Rattle.mol_resolve_rules.specs.ReadStatements.{declaring, each, mapped_on, read_declarator, read_let, read_start, redeclared_faults};
 ghost use Rattle.mol_resolve_rules.specs.ReadTypes.{seen_type};
 ghost use Rattle.mol_resolve_stmt.specs.GoesOn.{GoesOn};
-ghost use Rattle.mol_values.specs.declared.iblock.IStmtNode.TheVariants as nodes;
+ghost use Rattle.mol_values_types.specs.declared.iblock.IStmtNode.TheVariants as nodes;
 
 use crate::parts;
 use crate::stmt_reader::StmtReader;
@@ -18,7 +18,7 @@ use jav_tree::{Declarator, ForStart, Let, TypeName};
 use mol_base::{List, OutOfMemory, Text};
 use mol_resolve_faults::{FaultKind, FirstFault};
 use mol_resolve_readings::{Locals, Names};
-use mol_values::{IDeclarator, IForStart, ILet, IStmtNode};
+use mol_values_types::{IDeclarator, IForStart, ILet, IStmtNode};
 
 impl<N: Names> StmtReader<'_, N> {
     /// Notes a name that a local or parameter has in whose scope it is declared (JLS 6.4).

@@ -14,7 +14,7 @@ use jav_tree::{Expr, ForStart, TypeName};
 use mol_base::{Boxed, List, OutOfMemory, Text};
 use mol_resolve_faults::FirstFault;
 use mol_resolve_readings::{Locals, Meant, Names, ReadType};
-use mol_values::{IBlock, IExpr, IForStart, IStmtNode, IType};
+use mol_values_types::{IBlock, IExpr, IForStart, IStmtNode, IType};
 use std::alloc::Global;
 
 /// The header of a loop, as it is read. It is handed on in a box: a call that may have to let go of a bare one is dear to prove.

@@ -11,7 +11,7 @@ use jav_tree::{Block, Expr, ForStart, TypeName};
 use mol_base::{Boxed, OutOfMemory, Text};
 use mol_resolve_faults::FirstFault;
 use mol_resolve_readings::{Locals, Names};
-use mol_values::{IBlock, IStmtNode};
+use mol_values_types::{IBlock, IStmtNode};
 
 /// A loop, but for its body.
 #[derive(Clone, Copy)]

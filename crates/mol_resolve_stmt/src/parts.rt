@@ -7,13 +7,13 @@ ghost use Rattle.mol_resolve_rules.specs.Readers.{Reader};
 ghost use Rattle.mol_resolve_rules.specs.ReadStatements.{let_of};
 ghost use Rattle.mol_resolve_stmt.specs.Made as spec;
 ghost use Rattle.mol_resolve_stmt.specs.Made.{tree_part};
-ghost use Rattle.mol_values.specs.declared.iblock.IElse.TheVariants as elses;
-ghost use Rattle.mol_values.specs.declared.iblock.IForStart.TheVariants as starts;
-ghost use Rattle.mol_values.specs.declared.iblock.IStmtNode.TheVariants as nodes;
+ghost use Rattle.mol_values_types.specs.declared.iblock.IElse.TheVariants as elses;
+ghost use Rattle.mol_values_types.specs.declared.iblock.IForStart.TheVariants as starts;
+ghost use Rattle.mol_values_types.specs.declared.iblock.IStmtNode.TheVariants as nodes;
 
 use mol_base::{Boxed, List, OutOfMemory, Text};
 use mol_resolve_readings::{Meant, ReadType};
-use mol_values::{
+use mol_values_types::{
     IBlock, IBody, IDeclarator, IElse, IExpr, IForStart, IIf, ILet, IStmt, IStmtNode, copy_texts,
 };
 use std::alloc::Global;

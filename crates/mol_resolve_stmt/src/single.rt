@@ -6,7 +6,7 @@ ghost use Rattle.mol_resolve_readings.specs.reads.Reads.{Reads};
 ghost use Rattle.mol_resolve_rules.specs.Outcomes.{beside, mapped};
 ghost use Rattle.mol_resolve_rules.specs.ReadStatements.{read_exprs, read_maybe, super_if};
 ghost use Rattle.mol_resolve_rules.specs.ReadTrees.{read_expr};
-ghost use Rattle.mol_values.specs.declared.iblock.IStmtNode.TheVariants as nodes;
+ghost use Rattle.mol_values_types.specs.declared.iblock.IStmtNode.TheVariants as nodes;
 
 use crate::parts;
 use crate::stmt_reader::StmtReader;
@@ -14,7 +14,7 @@ use jav_tree::Expr;
 use mol_base::OutOfMemory;
 use mol_resolve_faults::FirstFault;
 use mol_resolve_readings::{Locals, Names};
-use mol_values::{IExpr, IStmtNode};
+use mol_values_types::{IExpr, IStmtNode};
 
 impl<N: Names> StmtReader<'_, N> {
     /// An expression, if there is one, without its static type. Outer `None`: it has no meaning.

@@ -15,7 +15,7 @@ use mol_base::{List, OutOfMemory};
 use mol_resolve_expr::ExprReader;
 use mol_resolve_faults::FirstFault;
 use mol_resolve_readings::{Locals, Meant, Names};
-use mol_values::{IBlock, IBody, IExpr, IStmt, IStmtNode};
+use mol_values_types::{IBlock, IBody, IExpr, IStmt, IStmtNode};
 use std::alloc::Global;
 
 /// Reads the statements of a member in source files. Each call answers the tree of a program, in which names stand for identities, or

@@ -1,4 +1,3 @@
-pub mod cells
 pub mod class_members
 pub mod classes
 pub mod hierarchy

@@ -6,6 +6,6 @@ mod members;
 mod names;
 
 pub use classes::parent_of;
-pub use living::{is_live, is_living_class, is_living_field, living_method_of};
+pub use living::{is_live, is_living_class, living_method_of};
 pub use members::{is_constructor, is_static_field, owner_of, params_of};
 pub use names::{name_of, package_of};

@@ -7,8 +7,8 @@ mod classes;
 mod hierarchy;
 
 pub use cells::{
-    is_constructor, is_live, is_living_class, is_living_field, is_static_field, living_method_of,
-    name_of, owner_of, package_of, params_of, parent_of,
+    is_constructor, is_live, is_living_class, is_static_field, living_method_of, name_of, owner_of,
+    package_of, params_of, parent_of,
 };
 pub use class_members::{ClassMember, ClassMembers};
 pub use classes::{ClassIndex, superclass_of};

@@ -16,9 +16,9 @@ use Rattle.mol_spell_rules.specs.SpelledUnits.{SpelledUnit, UnitKey, key_at, liv
 use Rattle.mol_spell.specs.NamesOf.{AreNamesOf}
 use Rattle.mol_spell.specs.Spelt.{spelled_of, unit_at}
 use Rattle.mol_spell.specs.declared.spelt_unit.SpeltUnit.{SpeltUnit}
-use Rattle.mol_table.specs.Program.{Program}
-use Rattle.mol_table.specs.Renumber.{path_at}
-use Rattle.mol_table.specs.Tidy.{tidy}
+use Rattle.mol_table_rules.specs.Program.{Program}
+use Rattle.mol_table_rules.specs.Renumber.{path_at}
+use Rattle.mol_table_rules.specs.Tidy.{tidy}
 use Rattle.mol_spell.proofs.keys_lemmas.KeysOrdered.{unit_key_cmp-IsKeyOrder}
 use Rattle.mol_spell.specs.keys.Keys.{key_of}
 use Rattle.mol_spell.specs.declared.keys.unit_key.UnitKey.{UnitKey as Kept}

@@ -1,7 +1,7 @@
 -- Source files as the code has them.
 use Rattle.mol_spell_rules.specs.SpelledUnits.{SpelledUnit, UnitKey, unit_tree}
 use Rattle.mol_spell.specs.declared.spelt_unit.SpeltUnit.{SpeltUnit}
-use Rattle.mol_table.specs.Program.{Program}
+use Rattle.mol_table_rules.specs.Program.{Program}
 
 abbrev pub spelled_of : SpeltUnit → SpelledUnit
 spelled_of unit = record { class = unit.class; path = unit.path; unit = unit.unit }

@@ -1,4 +1,4 @@
-//! A table as source files.
+//! A table as source files: which there are, in their order, and the tree of each.
 #![tactic(auto)]
 
 mod file;

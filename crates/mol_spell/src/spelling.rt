@@ -1,7 +1,7 @@
 //! All files.
 ghost use Rattle.std.specs.Prelude.{◌≡◌, IfOk, map};
 ghost use Rattle.mol_spell_rules.specs.SpelledUnits.{spelling};
-ghost use Rattle.mol_table.specs.Tidy.{tidy};
+ghost use Rattle.mol_table_rules.specs.Tidy.{tidy};
 ghost use Rattle.mol_spell.specs.Spelt.{spelled_of, unit_at};
 ghost use Rattle.mol_spell.specs.keys.Keys.{key_of};
 

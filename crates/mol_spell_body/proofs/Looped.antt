@@ -20,12 +20,12 @@ use Rattle.mol_resolve_rules.specs.ProgramViews.{seen}
 use Rattle.mol_spell_rules.specs.SpelledExpressions.{spelled_expr, trees}
 use Rattle.mol_spell_rules.specs.SpelledStatements.{declared_type, header as for_rest, spelled_block, spelled_let, spelled_start, then_next}
 use Rattle.mol_spell_rules.specs.Writers.{Writer}
-use Rattle.mol_values.specs.declared.iblock.IBlock.{IBlock}
-use Rattle.mol_values.specs.declared.iblock.IForStart.{IForStart}
-use Rattle.mol_values.specs.declared.iblock.IForStart.TheVariants as starts
-use Rattle.mol_values.specs.declared.iblock.ILet.{ILet}
-use Rattle.mol_values.specs.declared.iexpr.IExpr.{IExpr}
-use Rattle.mol_values.specs.declared.itype.IType.{IType}
+use Rattle.mol_values_types.specs.declared.iblock.IBlock.{IBlock}
+use Rattle.mol_values_types.specs.declared.iblock.IForStart.{IForStart}
+use Rattle.mol_values_types.specs.declared.iblock.IForStart.TheVariants as starts
+use Rattle.mol_values_types.specs.declared.iblock.ILet.{ILet}
+use Rattle.mol_values_types.specs.declared.iexpr.IExpr.{IExpr}
+use Rattle.mol_values_types.specs.declared.itype.IType.{IType}
 
 module _ (writer : Writer) (locals : Locals Id) where
   pub all-trees : (es : List IExpr) → trees (map (spelled_expr writer locals) es) ≡ map (tree_of writer locals) es

@@ -14,19 +14,19 @@ use Rattle.mol_resolve_rules.specs.Locals.{Locals}
 use Rattle.mol_spell_rules.specs.SpelledExpressions.{spelled_expr, trees}
 use Rattle.mol_spell_rules.specs.SpelledStatements.{Spells, in_block, mapped, maybe_expr, node_step, one_expr, spelled_block, spelled_let, then_next}
 use Rattle.mol_spell_rules.specs.Writers.{Writer}
-use Rattle.mol_values.specs.declared.iblock.IBlock.{IBlock}
-use Rattle.mol_values.specs.declared.iblock.IElse.{IElse}
-use Rattle.mol_values.specs.declared.iblock.IElse.TheOpen.{IStmtNode-F}
-use Rattle.mol_values.specs.declared.iblock.IElse.TheViews.{roll-IStmtNode}
-use Rattle.mol_values.specs.declared.iblock.IForStart.{IForStart}
-use Rattle.mol_values.specs.declared.iblock.IIf.{IIf}
-use Rattle.mol_values.specs.declared.iblock.ILet.{ILet}
-use Rattle.mol_values.specs.declared.iblock.IStmt.{IStmt}
-use Rattle.mol_values.specs.declared.iblock.IStmtNode.{IStmtNode}
-use Rattle.mol_values.specs.declared.iblock.IStmtNode.TheVariants as nodes
-use Rattle.mol_values.specs.declared.iexpr.Argument.{Argument}
-use Rattle.mol_values.specs.declared.iexpr.IExpr.{IExpr}
-use Rattle.mol_values.specs.declared.itype.IType.{IType}
+use Rattle.mol_values_types.specs.declared.iblock.IBlock.{IBlock}
+use Rattle.mol_values_types.specs.declared.iblock.IElse.{IElse}
+use Rattle.mol_values_types.specs.declared.iblock.IElse.TheOpen.{IStmtNode-F}
+use Rattle.mol_values_types.specs.declared.iblock.IElse.TheViews.{roll-IStmtNode}
+use Rattle.mol_values_types.specs.declared.iblock.IForStart.{IForStart}
+use Rattle.mol_values_types.specs.declared.iblock.IIf.{IIf}
+use Rattle.mol_values_types.specs.declared.iblock.ILet.{ILet}
+use Rattle.mol_values_types.specs.declared.iblock.IStmt.{IStmt}
+use Rattle.mol_values_types.specs.declared.iblock.IStmtNode.{IStmtNode}
+use Rattle.mol_values_types.specs.declared.iblock.IStmtNode.TheVariants as nodes
+use Rattle.mol_values_types.specs.declared.iexpr.Argument.{Argument}
+use Rattle.mol_values_types.specs.declared.iexpr.IExpr.{IExpr}
+use Rattle.mol_values_types.specs.declared.itype.IType.{IType}
 
 -- # Statements
 

@@ -13,10 +13,10 @@ use Rattle.mol_spell_body.specs.declared.loops.Loop.TheVariants as loop
 use Rattle.mol_resolve_rules.specs.ProgramViews.{seen}
 use Rattle.mol_spell_rules.specs.SpelledStatements.{Spells, declared_type, declaring, header as for_rest, in_block, mapped, one_expr, spelled_block, spelled_start, then_next}
 use Rattle.mol_spell_rules.specs.Writers.{Writer}
-use Rattle.mol_values.specs.declared.iblock.IBlock.{IBlock}
-use Rattle.mol_values.specs.declared.iblock.IForStart.{IForStart}
-use Rattle.mol_values.specs.declared.iexpr.IExpr.{IExpr}
-use Rattle.mol_values.specs.declared.itype.IType.{IType}
+use Rattle.mol_values_types.specs.declared.iblock.IBlock.{IBlock}
+use Rattle.mol_values_types.specs.declared.iblock.IForStart.{IForStart}
+use Rattle.mol_values_types.specs.declared.iexpr.IExpr.{IExpr}
+use Rattle.mol_values_types.specs.declared.itype.IType.{IType}
 
 -- a loop of its header and its body
 abbrev pub loop_node : Header × Block → StmtNode

@@ -11,7 +11,7 @@ use crate::loops::Loop;
 use jav_tree::{Block, Stmt, StmtNode};
 use mol_base::{List, OutOfMemory, Text};
 use mol_spell_places::{BodyLocals, Places};
-use mol_values::{IBlock, IStmt, IStmtNode, copy_texts};
+use mol_values_types::{IBlock, IStmt, IStmtNode, copy_texts};
 use std::alloc::Global;
 
 impl<P: Places> BodyWriter<'_, P> {

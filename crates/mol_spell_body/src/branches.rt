@@ -10,7 +10,7 @@ use crate::body_writer::BodyWriter;
 use jav_tree::{Block, Else, Expr, Stmt, StmtNode};
 use mol_base::{Boxed, List, OutOfMemory};
 use mol_spell_places::{BodyLocals, Places};
-use mol_values::{IBlock, IElse, IIf};
+use mol_values_types::{IBlock, IElse, IIf};
 use std::alloc::Global;
 
 /// The branch of an `if`, and what follows it.

@@ -11,7 +11,7 @@ use crate::body_writer::BodyWriter;
 use jav_tree::{Declarator, Expr, ForStart, Let, StmtNode, TypeName};
 use mol_base::{List, OutOfMemory, Text};
 use mol_spell_places::{BodyLocals, Places};
-use mol_values::{IDeclarator, IForStart, ILet, IType};
+use mol_values_types::{IDeclarator, IForStart, ILet, IType};
 use std::alloc::Global;
 
 impl<P: Places> BodyWriter<'_, P> {

@@ -9,7 +9,7 @@ use jav_tree::{Expr, TypeName};
 use mol_base::{List, OutOfMemory};
 use mol_spell_expr::{ExprWriter, TypePlace};
 use mol_spell_places::{BodyLocals, InBody, Places};
-use mol_values::{Argument, IExpr, IType};
+use mol_values_types::{Argument, IExpr, IType};
 
 impl<P: Places> BodyWriter<'_, P> {
     /// The type of a declaration as it is written beside these locals. `Err` is want of memory.

@@ -9,7 +9,7 @@ use crate::body_writer::BodyWriter;
 use jav_tree::{Block, Expr, ForStart, StmtNode, TypeName};
 use mol_base::{Boxed, List, OutOfMemory, Text};
 use mol_spell_places::{BodyLocals, Places};
-use mol_values::{IExpr, IForStart, IType};
+use mol_values_types::{IExpr, IForStart, IType};
 use std::alloc::Global;
 
 /// The header of a loop, as it is written.

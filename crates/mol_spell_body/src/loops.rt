@@ -9,7 +9,7 @@ use crate::headers::{Header, looped};
 use jav_tree::StmtNode;
 use mol_base::{Boxed, OutOfMemory, Text};
 use mol_spell_places::{BodyLocals, Places};
-use mol_values::{IBlock, IExpr, IForStart, IType};
+use mol_values_types::{IBlock, IExpr, IForStart, IType};
 
 /// A loop, but for its body.
 #[derive(Clone, Copy)]

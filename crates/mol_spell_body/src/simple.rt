@@ -8,7 +8,7 @@ use crate::body_writer::BodyWriter;
 use jav_tree::StmtNode;
 use mol_base::OutOfMemory;
 use mol_spell_places::{BodyLocals, Places};
-use mol_values::{Argument, IExpr};
+use mol_values_types::{Argument, IExpr};
 
 impl<P: Places> BodyWriter<'_, P> {
     /// An expression as a statement.

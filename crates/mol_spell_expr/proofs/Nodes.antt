@@ -2,20 +2,20 @@
 use Rattle.std.proofs.Common.{◌≡◌, ◌≢◌, ℕ, true, false, List, [], ◌∷◌, map, length, None, Some, refl, sym, ap, ◌∙◌, if◌then◌else◌}
 use Rattle.std.proofs.lemmas.List.{length-map}
 use Rattle.mol_base.specs.declared.ident.Id.{Id}
-use Rattle.mol_values.specs.declared.iexpr.Argument.{Argument}
-use Rattle.mol_values.specs.declared.iexpr.IExpr.{IExpr}
-use Rattle.mol_values.specs.declared.iexpr.IExpr.TheFolds.{fold-roll-Argument, ind-IExpr, map-IExpr}
-use Rattle.mol_values.specs.declared.iexpr.IExpr.TheOpen.{IExpr-F}
-use Rattle.mol_values.specs.declared.iexpr.IExpr.TheVariants as exprs
-use Rattle.mol_values.specs.declared.iexpr.IExpr.TheViews.{roll-IExpr}
-use Rattle.mol_values.specs.declared.itype.IType.{IType}
+use Rattle.mol_values_types.specs.declared.iexpr.Argument.{Argument}
+use Rattle.mol_values_types.specs.declared.iexpr.IExpr.{IExpr}
+use Rattle.mol_values_types.specs.declared.iexpr.IExpr.TheFolds.{fold-roll-Argument, ind-IExpr, map-IExpr}
+use Rattle.mol_values_types.specs.declared.iexpr.IExpr.TheOpen.{IExpr-F}
+use Rattle.mol_values_types.specs.declared.iexpr.IExpr.TheVariants as exprs
+use Rattle.mol_values_types.specs.declared.iexpr.IExpr.TheViews.{roll-IExpr}
+use Rattle.mol_values_types.specs.declared.itype.IType.{IType}
 use Rattle.jav_tree.specs.declared.expr.Expr.{Expr}
 use Rattle.jav_tree.specs.declared.expr.ExprNode.TheVariants as node
 use Rattle.jav_tree.specs.declared.types.TypeName.TheVariants as types
 use Rattle.jav_names.specs.DottedNames.{Name}
 use Rattle.mol_resolve_rules.specs.Locals.{Locals}
 use Rattle.mol_spell_rules.proofs.SpelledEquations.{rolled, spelled_argument}
-use Rattle.mol_spell_rules.specs.SpelledExpressions.{SpelledExpr, argument_step, call_form, constructor_text, created_type, dot_tree, expr_step, field_tree, importable_names, is_this_step, local_text, made, name_of, name_tree, names_tree, own_form, param_name, spelled_expr, static_call_form, static_form, tree_step, trees, type_here, class_text, created_tree}
+use Rattle.mol_spell_rules.specs.SpelledExpressions.{SpelledExpr, argument_step, call_form, constructor_text, dot_tree, expr_step, field_tree, importable_names, is_this_step, local_text, made, name_of, name_tree, names_tree, own_form, param_name, spelled_expr, static_call_form, static_form, tree_step, trees, type_here, class_text, created_tree}
 use Rattle.mol_spell_rules.specs.Writers.{Writer, outside_import}
 use Rattle.mol_spell_expr.proofs.Forms.{call-after}
 use Rattle.mol_spell_expr.specs.Calls.{call_node, receiver}
@@ -45,9 +45,6 @@ module _ (writer : Writer) (locals : Locals Id) where
   -- as many trees as arguments
   many : (args : List Argument) → length (map spelled_arg args) ≡ length (map (argument_tree writer locals) args)
   many args = length-map args spelled_arg ∙ sym (length-map args (argument_tree writer locals))
-
-  many-exprs : (es : List IExpr) → length (map spelled es) ≡ length (map (tree_of writer locals) es)
-  many-exprs es = length-map es spelled ∙ sym (length-map es (tree_of writer locals))
 
   -- ---- `this`
 
@@ -278,12 +275,11 @@ module _ (writer : Writer) (locals : Locals Id) (e : IExpr) (tree : Expr) where
       (written ∙ ap (λ es. made (node.SuperCall text es)) (sym (trees-of writer locals found)))
 
   pub write-NewOutside : (type : IType) (args found : List IExpr) → e ≡ exprs.NewOutside type args → found ≡ args
-      → tree ≡ made (node.New (created_type writer locals (length (ofs found)) type).tree (ofs found)) → Comes
+      → tree ≡ made (node.New (type_here writer locals type).tree (ofs found)) → Comes
   write-NewOutside type args found is same written =
       by_node (IExpr-F.NewOutside type found)
       (is ∙ (λ i. exprs.NewOutside type (sym same i)) ∙ sym (exprs.rolls-NewOutside type found))
-      (written ∙ sym (λ i. made (node.New (created_type writer locals (many-exprs writer locals found i) type).tree
-      (trees-of writer locals found i))))
+      (written ∙ ap (λ es. made (node.New (type_here writer locals type).tree es)) (sym (trees-of writer locals found)))
 
   pub write-NewArray : (type : IType) (sizes found : List IExpr) (pairs : ℕ) → e ≡ exprs.NewArray type sizes pairs → found ≡ sizes
       → tree ≡ made (node.NewArray (type_here writer locals type).tree (ofs found) pairs) → Comes

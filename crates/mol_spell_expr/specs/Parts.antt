@@ -1,13 +1,13 @@
 -- Expressions of how their parts are written.
 use Rattle.std.specs.Prelude.{List, length, None, Some, if◌then◌else◌}
 use Rattle.mol_base.specs.declared.ident.Id.{Id}
-use Rattle.mol_values.specs.declared.iexpr.Argument.{Argument}
-use Rattle.mol_values.specs.declared.iexpr.IExpr.{IExpr}
+use Rattle.mol_values_types.specs.declared.iexpr.Argument.{Argument}
+use Rattle.mol_values_types.specs.declared.iexpr.IExpr.{IExpr}
 use Rattle.jav_tree.specs.declared.expr.Expr.{Expr}
 use Rattle.jav_tree.specs.declared.expr.ExprNode.TheVariants as node
 use Rattle.jav_tree.specs.declared.types.TypeName.TheVariants as types
 use Rattle.mol_resolve_rules.specs.Locals.{Locals}
-use Rattle.mol_spell_rules.specs.SpelledExpressions.{SpelledExpr, call_form, constructor_text, created_type, dot_tree, field_tree, made, name_of, own_form, spelled_expr, static_call_form, type_here}
+use Rattle.mol_spell_rules.specs.SpelledExpressions.{SpelledExpr, call_form, constructor_text, dot_tree, field_tree, made, name_of, own_form, spelled_expr, static_call_form, type_here}
 use Rattle.mol_spell_rules.specs.Writers.{Writer}
 use Rattle.mol_spell_expr.specs.Calls.{call_node, receiver}
 use Rattle.mol_spell_expr.specs.declared.listed.Listed.{Listed}
@@ -65,7 +65,7 @@ module _ (writer : Writer) (locals : Locals Id) where
   over_list (listed.Outside name) args = call_node None name.now args
   over_list (listed.Super name) args = made (node.SuperCall name.now args)
   over_list (listed.New constructor) args = made (node.New (types.Named (constructor_text writer locals constructor.now)) args)
-  over_list (listed.NewOutside type) args = made (node.New (created_type writer locals (length args) type.now).tree args)
+  over_list (listed.NewOutside type) args = made (node.New (type_here writer locals type.now).tree args)
   over_list (listed.NewArray type pairs) sizes = made (node.NewArray (type_here writer locals type.now).tree sizes pairs)
   over_list (listed.ArrayLit type) items = made (node.ArrayLit (type_here writer locals type.now).tree items)
   over_list listed.Braces items = made (node.Braces items)

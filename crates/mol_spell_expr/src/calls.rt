@@ -12,7 +12,7 @@ use crate::trees::{call, call_on, created};
 use crate::type_place::TypePlace;
 use jav_tree::Expr;
 use mol_base::{Boxed, Id, List, OutOfMemory, number_of};
-use mol_values::{Argument, IExpr};
+use mol_values_types::{Argument, IExpr};
 
 impl<N: Names> ExprWriter<'_, N> {
     /// A call of a method of the program on what an expression gives.

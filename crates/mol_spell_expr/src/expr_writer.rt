@@ -11,7 +11,7 @@ use crate::operators::Binary;
 use crate::trees::{literal, made, named};
 use jav_tree::{Expr, ExprNode};
 use mol_base::{Boxed, List, OutOfMemory};
-use mol_values::{Argument, IExpr};
+use mol_values_types::{Argument, IExpr};
 use std::alloc::Global;
 
 /// Writes expressions and types of a program as trees of a source file, at the place that `names` knows. As they come from no source,

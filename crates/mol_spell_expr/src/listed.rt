@@ -2,7 +2,7 @@
 ghost use Rattle.std.specs.Prelude.{◌≡◌, IfOk, length, map};
 ghost use Rattle.jav_tree.specs.declared.expr.ExprNode.TheVariants as node;
 ghost use Rattle.jav_tree.specs.declared.types.TypeName.TheVariants as types;
-ghost use Rattle.mol_spell_rules.specs.SpelledExpressions.{constructor_text, created_type, type_here};
+ghost use Rattle.mol_spell_rules.specs.SpelledExpressions.{constructor_text, type_here};
 ghost use Rattle.mol_spell_rules.specs.SpelledExpressions.{made};
 ghost use Rattle.mol_spell_expr.specs.Parts.{argument_tree, over_list, tree_of};
 
@@ -13,7 +13,7 @@ use crate::trees::{call, created, made, super_call};
 use crate::type_place::TypePlace;
 use jav_tree::{Expr, ExprNode};
 use mol_base::{Id, List, OutOfMemory, Text};
-use mol_values::{Argument, IExpr, IType};
+use mol_values_types::{Argument, IExpr, IType};
 use std::alloc::Global;
 
 /// What stands over any number of expressions.
@@ -103,7 +103,7 @@ impl<N: Names> ExprWriter<'_, N> {
     /// A creation of an object of a type outside.
     fn creation_of(&self, ty: &IType, args: List<Expr>) -> Result<Expr, OutOfMemory>
         ensures { IfOk result (λ tree. tree ≡ made (node.New
-            (created_type (N.writer self.now.names.now) (N.locals self.now.names.now) (length args) ty.now).tree args)) }
+            (type_here (N.writer self.now.names.now) (N.locals self.now.names.now) ty.now).tree args)) }
     {
         let ty = self.type_name(TypePlace::Expression, ty)?;
         Ok(made(ExprNode::New(ty, args)))

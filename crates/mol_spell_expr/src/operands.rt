@@ -11,7 +11,7 @@ use crate::trees::{dot, made};
 use crate::type_place::TypePlace;
 use jav_tree::{Expr, ExprNode};
 use mol_base::{Boxed, Id, OutOfMemory, Text};
-use mol_values::{IExpr, IType};
+use mol_values_types::{IExpr, IType};
 
 /// What stands over one operand.
 #[derive(Clone, Copy)]

@@ -1,10 +1,9 @@
 //! Types as they are written (JLS 4, 6.5.5).
 ghost use Rattle.std.specs.Prelude.{◌≡◌, IfOk};
 ghost use Rattle.jav_tree.specs.declared.types.TypeName.TheVariants as types;
-ghost use Rattle.jav_names.specs.DottedNames.{Name};
 ghost use Rattle.jav_names.specs.TypeTexts.{imported_text};
 ghost use Rattle.mol_spell_rules.specs.SpelledTypes.{spelled_type};
-ghost use Rattle.mol_spell_rules.specs.Writers.{Asked, spelled, text_of};
+ghost use Rattle.mol_spell_rules.specs.Writers.{spelled, text_of};
 ghost use Rattle.mol_spell_expr.specs.Importables.{hides_at, importable_of};
 
 use crate::classes::with_dot;
@@ -14,7 +13,7 @@ use crate::names::Names;
 use crate::type_place::TypePlace;
 use jav_tree::TypeName;
 use mol_base::{Boxed, OutOfMemory, Text};
-use mol_values::IType;
+use mol_values_types::IType;
 use std::alloc::Global;
 
 impl<N: Names> ExprWriter<'_, N> {
@@ -22,8 +21,7 @@ impl<N: Names> ExprWriter<'_, N> {
     pub fn type_name(&self, place: TypePlace, ty: &IType) -> Result<TypeName, OutOfMemory>
         ensures { let writer = N.writer self.now.names.now in
             let locals = N.locals self.now.names.now in
-            IfOk result (λ tree. (asks : Name → Asked)
-            → tree ≡ (spelled_type writer (hides_at writer locals place) locals asks ty.now).tree) }
+            IfOk result (λ tree. tree ≡ (spelled_type writer (hides_at writer locals place) locals ty.now).tree) }
     {
         match ty {
             IType::Boolean => primitive(self.alloc, "boolean"),

@@ -22,14 +22,14 @@ use Rattle.mol_resolve_rules.specs.ReadTrees.{Mode}
 use Rattle.mol_resolve_rules.specs.StaticTypes.{present_param, class_of_only_declaration}
 use Rattle.mol_spell_rules.specs.SpelledExpressions.{SpelledExpr, MemberForm, by_name, on_this, on_class, made, names_tree, trees, no_name, on_owner, hides, name_of, reads_field, reads_method, static_form, static_call_form, class_names, class_text, constructor_text, param_name, field_tree, call_tree, field_reference, call_reference, constructor_reference, plain, each_alone, after}
 use Rattle.mol_spell_rules.specs.Writers.{Writer, program_class, use_of, Asked, Reference}
-use Rattle.mol_table.specs.ExpressionForms as forms
-use Rattle.mol_table.specs.ExpressionForms.{Shape, is_value, is_first_value, are_values, are_arguments, is_binary, shape_of}
-use Rattle.mol_table.specs.Mentions.{Mention, a_class, named, joined}
-use Rattle.mol_table.specs.Program.{Program, owner_at}
-use Rattle.mol_table.specs.Rules.{IsProgram, fills}
-use Rattle.mol_values.specs.declared.iexpr.IExpr.TheOpen.{IExpr-F}
-use Rattle.mol_values.specs.declared.known.Known.TheVariants as knowns
-use Rattle.mol_values.specs.declared.param.Param.{Param}
+use Rattle.mol_table_rules.specs.ExpressionForms as forms
+use Rattle.mol_table_rules.specs.ExpressionForms.{Shape, is_value, is_first_value, are_values, are_arguments, is_binary, shape_of}
+use Rattle.mol_table_rules.specs.Mentions.{Mention, a_class, named, joined}
+use Rattle.mol_table_rules.specs.Program.{Program, owner_at}
+use Rattle.mol_table_rules.specs.Rules.{IsProgram, fills}
+use Rattle.mol_values_types.specs.declared.iexpr.IExpr.TheOpen.{IExpr-F}
+use Rattle.mol_values_types.specs.declared.known.Known.TheVariants as knowns
+use Rattle.mol_values_types.specs.declared.param.Param.{Param}
 use Rattle.jav_print_laws.proofs.printable_lemmas.Expressions.{both}
 use Rattle.mol_spell_laws.proofs.ExpressionTrees.{Fits, ValuesFit, ItemsFit, no-values, more-values, no-items, more-items, before-none, before-some, fits-This, fits-name, fits-dot, fits-names, fits-Call}
 use Rattle.mol_spell_laws.proofs.KnownNames.{class-fills, full-dotted, owner-known, constructed-known, param-named}

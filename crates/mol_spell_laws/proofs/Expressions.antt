@@ -16,22 +16,22 @@ use Rattle.jav_tree.specs.declared.types.TypeName.TheVariants as types
 use Rattle.jav_names.specs.DottedNames.{Name}
 use Rattle.mol_resolve_rules.specs.Locals.{Locals}
 use Rattle.mol_resolve_rules.specs.ReadTrees.{Mode, before}
-use Rattle.mol_spell_rules.specs.SpelledExpressions.{SpelledExpr, made, dot_tree, trees, local_text, hides, importable_names, name_of, type_here, created_type, reads_field, reads_method, own_form, static_form, call_form, static_call_form, class_text, constructor_text, param_name, field_tree, call_tree, tree_step, field_reference, call_reference, plain, each_alone, after, references_step, expr_step, argument_step, spelled_expr}
-use Rattle.mol_spell_rules.specs.Writers.{Writer, outside_import, Asked, type_asked, constructor_asked, field_asked, method_asked, index_asked, Reference}
-use Rattle.mol_table.specs.ExpressionForms as forms
-use Rattle.mol_table.specs.ExpressionForms.{Shape, is_value, is_first_value, are_values, are_arguments, is_binary, shape_of}
-use Rattle.mol_table.specs.Mentions as mention
-use Rattle.mol_table.specs.Mentions.{Mention, a_class, a_field, a_called_method, a_static_method, a_constructor, a_param, named, joined, type_mentions, expr_mentions}
-use Rattle.mol_table.specs.Program.{Program}
-use Rattle.mol_table.specs.Rules.{IsProgram, fills}
-use Rattle.mol_table.specs.TypeForms.{is_type, is_array, is_outside_class, outside_step, class_step, dimensions}
-use Rattle.mol_values.specs.declared.iexpr.Argument.{Argument, fold-Argument}
-use Rattle.mol_values.specs.declared.iexpr.IExpr.{IExpr}
-use Rattle.mol_values.specs.declared.iexpr.IExpr.TheFolds.{fold-roll-IExpr, fold-roll-Argument, ind-IExpr, map-IExpr}
-use Rattle.mol_values.specs.declared.iexpr.IExpr.TheOpen.{IExpr-F}
-use Rattle.mol_values.specs.declared.iexpr.IExpr.TheViews.{roll-IExpr, roll-Argument}
-use Rattle.mol_values.specs.declared.itype.IType.{IType, fold-IType}
-use Rattle.mol_values.specs.declared.known.Known.TheVariants as knowns
+use Rattle.mol_spell_rules.specs.SpelledExpressions.{SpelledExpr, made, dot_tree, trees, local_text, hides, importable_names, name_of, type_here, reads_field, reads_method, own_form, static_form, call_form, static_call_form, class_text, constructor_text, param_name, field_tree, call_tree, tree_step, field_reference, call_reference, plain, each_alone, after, references_step, expr_step, argument_step, spelled_expr}
+use Rattle.mol_spell_rules.specs.Writers.{Writer, outside_import, field_asked, method_asked, index_asked, Reference}
+use Rattle.mol_table_rules.specs.ExpressionForms as forms
+use Rattle.mol_table_rules.specs.ExpressionForms.{Shape, is_value, is_first_value, are_values, are_arguments, is_binary, shape_of}
+use Rattle.mol_table_rules.specs.Mentions as mention
+use Rattle.mol_table_rules.specs.Mentions.{Mention, a_class, a_field, a_called_method, a_static_method, a_constructor, named, joined, type_mentions, expr_mentions}
+use Rattle.mol_table_rules.specs.Program.{Program}
+use Rattle.mol_table_rules.specs.Rules.{IsProgram, fills}
+use Rattle.mol_table_rules.specs.TypeForms.{is_type, is_array, is_outside_class, outside_step, class_step, dimensions}
+use Rattle.mol_values_types.specs.declared.iexpr.Argument.{Argument, fold-Argument}
+use Rattle.mol_values_types.specs.declared.iexpr.IExpr.{IExpr}
+use Rattle.mol_values_types.specs.declared.iexpr.IExpr.TheFolds.{fold-roll-IExpr, fold-roll-Argument, ind-IExpr, map-IExpr}
+use Rattle.mol_values_types.specs.declared.iexpr.IExpr.TheOpen.{IExpr-F}
+use Rattle.mol_values_types.specs.declared.iexpr.IExpr.TheViews.{roll-IExpr, roll-Argument}
+use Rattle.mol_values_types.specs.declared.itype.IType.{IType, fold-IType}
+use Rattle.mol_values_types.specs.declared.known.Known.TheVariants as knowns
 use Rattle.jav_print_laws.proofs.printable_lemmas.Expressions.{both}
 use Rattle.mol_spell_laws.proofs.ExpressionTrees.{Fits, ValuesFit, no-values, before-none, before-some, fits-Lit, fits-This, fits-name, fits-dot, fits-names, fits-Call, fits-SuperCall, fits-New, fits-NewArray, fits-ArrayLit, fits-Braces, fits-Index, fits-Unary, fits-Post, fits-Binary, fits-Assign, fits-Cond, fits-Cast, fits-InstanceOf}
 use Rattle.mol_spell_laws.proofs.KnownNames.{IsCalled, static, field-fills, static-fills, called-fills, field-named, method-named}
@@ -174,17 +174,14 @@ module _ (writer : Writer) (rules : IsProgram writer.program) (owner : Id) (loca
 
   -- ---- types
 
-  abbrev asking : Name → Asked
-  asking text = type_asked text
-
   type-here : (type : IType) → is_type type ≡ true → all (type_mentions type) ≡ true
       → TypeFits program (is_array type) (is_class_type type) (dimensions type) (type_here writer locals type)
-  type-here type formed are = type-fits writer rules owner here locals asking type formed are
+  type-here type formed are = type-fits writer rules owner here locals type formed are
 
   narrow-here : (type : IType) → is_type type ≡ true → (fits : TypeFits program (is_array type) (is_class_type type) (dimensions type)
       (type_here writer locals type))
       → type_width (type_here writer locals type).tree ≤ 255
-  narrow-here type formed fits = narrow-type writer rules owner here locals asking (is_array type) (is_class_type type) (dimensions type)
+  narrow-here type formed fits = narrow-type writer rules owner here locals (is_array type) (is_class_type type) (dimensions type)
       (type_here writer locals type) fits
       (and_parts (is_named type) (nat_le (dimensions type) 255) formed).1
 
@@ -355,12 +352,11 @@ module _ (writer : Writer) (rules : IsProgram writer.program) (owner : Id) (loca
       let mentioned = both-known program owner (type_mentions type) (joined (map expr_mentions (exprs_in args))) are in
       let fits = piece.arguments-fit writer rules owner locals shape_of expr_mentions spelled (exprs_in args)
       (each-right args) parts.1 mentioned.1 in
-      let typed = type-fits writer rules owner here locals (λ text. constructor_asked text
-      (length (map spelled (exprs_in args)))) type class.1 mentioned.0 in
+      let typed = type-here type class.1 mentioned.0 in
       record {
         tree = fits-New _ _ (ap (λ (u : TypeUses). u.is_class) typed.uses ∙ or_right
             (fold-IType Bool class_step type) _ class.0) fits.fit fits.few;
-        names = λ mode. both-use program (created_type writer locals (length (map spelled (exprs_in args))) type).references
+        names = λ mode. both-use program (type_here writer locals type).references
             (each_alone writer locals (map spelled (exprs_in args))) typed.names fits.names;
       })
   layer (IExpr-F.NewArray type sizes pairs) = from (IExpr-F.NewArray type (exprs_in sizes) pairs) (λ formed are.

@@ -4,10 +4,10 @@ use Rattle.std.specs.Prelude.{All}
 use Rattle.jav_names.proofs.Lists.{All-from_each}
 use Rattle.mol_spell_rules.proofs.FilesOrdered.{files_in_order}
 use Rattle.mol_spell_rules.specs.SpelledUnits.{units_of}
-use Rattle.mol_table.proofs.TidyRules.{tidy-IsProgram}
-use Rattle.mol_table.specs.Program.{Program}
-use Rattle.mol_table.specs.Rules.{IsProgram}
-use Rattle.mol_table.specs.Tidy.{tidy}
+use Rattle.mol_table_rules.proofs.TidyRules.{tidy-IsProgram}
+use Rattle.mol_table_rules.specs.Program.{Program}
+use Rattle.mol_table_rules.specs.Rules.{IsProgram}
+use Rattle.mol_table_rules.specs.Tidy.{tidy}
 use Rattle.mol_spell_laws.proofs.SuperPlaces.{supers-in-place}
 use Rattle.mol_spell_laws.proofs.Units.{unit-printable, unit-narrow, unit-bare}
 use Rattle.mol_spell_laws.specs.PrintableFiles.{IsPrintableFile, SupersInPlace, FilesPrintable}

@@ -9,21 +9,21 @@ use Rattle.mol_base.specs.declared.ident.Id.{Id}
 use Rattle.jav_tree.specs.TokenTexts.{is_name, is_dotted_name}
 use Rattle.mol_resolve_rules.specs.StaticTypes.{present_param, class_of_only_declaration}
 use Rattle.mol_spell_rules.specs.Writers.{Importable, program_class, outside_import, full_of, simple_of}
-use Rattle.mol_table.proofs.TidyRules.{params-formed}
-use Rattle.mol_table.specs.Forms.{is_param, has_form}
-use Rattle.mol_table.specs.Life.{is_decl_of}
-use Rattle.mol_table.specs.Mentions.{a_class, a_field, a_called_method, a_static_method, a_constructor}
-use Rattle.mol_table.specs.Program.{Program, same_id, value_at, package_in, package_at, name_in, name_at, owner_in, owner_at, params_at, method_of_param}
-use Rattle.mol_table.specs.Rules.{IsProgram, fills}
-use Rattle.mol_values.specs.Slots.{has_slot}
-use Rattle.mol_values.specs.declared.cell.Slot.{Slot}
-use Rattle.mol_values.specs.declared.cell.Slot.TheVariants as slots
-use Rattle.mol_values.specs.declared.kind.MethodKind.TheVariants.{Instance, Static, Constructor}
-use Rattle.mol_values.specs.declared.known.Known.{Known}
-use Rattle.mol_values.specs.declared.known.Known.TheVariants as knowns
-use Rattle.mol_values.specs.declared.param.Param.{Param}
-use Rattle.mol_values.specs.declared.value.Value.{Value}
-use Rattle.mol_values.specs.declared.value.Value.TheVariants as values
+use Rattle.mol_table_rules.proofs.TidyRules.{params-formed}
+use Rattle.mol_table_rules.specs.Forms.{is_param, has_form}
+use Rattle.mol_table_rules.specs.Life.{is_decl_of}
+use Rattle.mol_table_rules.specs.Mentions.{a_class, a_field, a_called_method, a_static_method, a_constructor}
+use Rattle.mol_table_rules.specs.Program.{Program, same_id, value_at, package_in, package_at, name_in, name_at, owner_in, owner_at, params_at, method_of_param}
+use Rattle.mol_table_rules.specs.Rules.{IsProgram, fills}
+use Rattle.mol_values_types.specs.Slots.{has_slot}
+use Rattle.mol_values_types.specs.declared.cell.Slot.{Slot}
+use Rattle.mol_values_types.specs.declared.cell.Slot.TheVariants as slots
+use Rattle.mol_values_types.specs.declared.kind.MethodKind.TheVariants.{Instance, Static, Constructor}
+use Rattle.mol_values_types.specs.declared.known.Known.{Known}
+use Rattle.mol_values_types.specs.declared.known.Known.TheVariants as knowns
+use Rattle.mol_values_types.specs.declared.param.Param.{Param}
+use Rattle.mol_values_types.specs.declared.value.Value.{Value}
+use Rattle.mol_values_types.specs.declared.value.Value.TheVariants as values
 use Rattle.mol_spell_laws.proofs.Names.{name-dotted, dotted-behind, simple-name-is}
 
 -- ---- what is known as

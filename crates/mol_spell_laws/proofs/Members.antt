@@ -31,33 +31,33 @@ use Rattle.mol_resolve_rules.specs.ProgramViews.{words_in}
 use Rattle.mol_spell_rules.specs.SpelledStatements.{maybe_expr, spelled_body}
 use Rattle.mol_spell_rules.specs.SpelledUnits.{words_at, notes_in, notes_at, writing, type_tree, first_value_tree, result_tree, param_of, params_of, body_in, body_tree, field_member, constructor_member, method_member, declaration_member, spelled_member}
 use Rattle.mol_spell_rules.specs.UnitCells.{is_owned_by}
-use Rattle.mol_spell_rules.specs.Writers.{Writer, hides_none, type_asked}
-use Rattle.mol_table.proofs.Counts.{none-some, some-same}
-use Rattle.mol_table.proofs.Living.{id_tied}
-use Rattle.mol_table.specs.ExpressionForms.{is_initial}
-use Rattle.mol_table.specs.Forms.{is_param, is_formed}
-use Rattle.mol_table.specs.Mentions.{Mention, a_listed_param, named, param_mentions, type_mentions, maybe_mentions, body_mentions}
-use Rattle.mol_table.specs.Program.{Program, same_id, value_at, living_at, name_at, owner_at, params_in}
-use Rattle.mol_table.specs.Renumber.{is_living_class}
-use Rattle.mol_table.specs.Rules.{IsProgram, is_declared}
-use Rattle.mol_table.specs.StatementForms.{is_body, block_shape}
-use Rattle.mol_table.specs.TypeForms.{is_type}
-use Rattle.mol_values.specs.Words.{are_words, is_declaration}
-use Rattle.mol_values.specs.Slots.{slot_of, same_slot, has_slot}
-use Rattle.mol_values.specs.declared.cell.Slot.{Slot}
-use Rattle.mol_values.specs.declared.cell.Slot.TheVariants as slots
-use Rattle.mol_values.specs.declared.iblock.IBody.{IBody}
-use Rattle.mol_values.specs.declared.iexpr.IExpr.{IExpr}
-use Rattle.mol_values.specs.declared.itype.IType.{IType}
-use Rattle.mol_values.specs.declared.kind.MethodKind.{MethodKind}
-use Rattle.mol_values.specs.declared.kind.MethodKind.TheVariants.{Instance, Static, Constructor}
-use Rattle.mol_values.specs.declared.known.Known.{Known}
-use Rattle.mol_values.specs.declared.known.Known.TheVariants as knowns
-use Rattle.mol_values.specs.declared.param.Param.{Param}
-use Rattle.mol_values.specs.declared.value.Value.{Value}
-use Rattle.mol_values.specs.declared.value.Value.TheVariants as values
-use Rattle.mol_values.specs.declared.words.Notes.{Notes}
-use Rattle.mol_values.specs.declared.words.Words.{Words}
+use Rattle.mol_spell_rules.specs.Writers.{Writer, hides_none}
+use Rattle.mol_table_rules.proofs.Counts.{none-some, some-same}
+use Rattle.mol_table_rules.proofs.Living.{id_tied}
+use Rattle.mol_table_rules.specs.ExpressionForms.{is_initial}
+use Rattle.mol_table_rules.specs.Forms.{is_param, is_formed}
+use Rattle.mol_table_rules.specs.Mentions.{Mention, a_listed_param, named, param_mentions, type_mentions, maybe_mentions, body_mentions}
+use Rattle.mol_table_rules.specs.Program.{Program, same_id, value_at, living_at, name_at, owner_at, params_in}
+use Rattle.mol_table_rules.specs.Renumber.{is_living_class}
+use Rattle.mol_table_rules.specs.Rules.{IsProgram, is_declared}
+use Rattle.mol_table_rules.specs.StatementForms.{is_body, block_shape}
+use Rattle.mol_table_rules.specs.TypeForms.{is_type}
+use Rattle.mol_values_types.specs.Words.{are_words, is_declaration}
+use Rattle.mol_values_types.specs.Slots.{slot_of, same_slot, has_slot}
+use Rattle.mol_values_types.specs.declared.cell.Slot.{Slot}
+use Rattle.mol_values_types.specs.declared.cell.Slot.TheVariants as slots
+use Rattle.mol_values_types.specs.declared.iblock.IBody.{IBody}
+use Rattle.mol_values_types.specs.declared.iexpr.IExpr.{IExpr}
+use Rattle.mol_values_types.specs.declared.itype.IType.{IType}
+use Rattle.mol_values_types.specs.declared.kind.MethodKind.{MethodKind}
+use Rattle.mol_values_types.specs.declared.kind.MethodKind.TheVariants.{Instance, Static, Constructor}
+use Rattle.mol_values_types.specs.declared.known.Known.{Known}
+use Rattle.mol_values_types.specs.declared.known.Known.TheVariants as knowns
+use Rattle.mol_values_types.specs.declared.param.Param.{Param}
+use Rattle.mol_values_types.specs.declared.value.Value.{Value}
+use Rattle.mol_values_types.specs.declared.value.Value.TheVariants as values
+use Rattle.mol_values_types.specs.declared.words.Notes.{Notes}
+use Rattle.mol_values_types.specs.declared.words.Words.{Words}
 use Rattle.mol_spell_laws.proofs.KnownNames.{IsCalled, instance, static, value-there, field-named, method-named}
 use Rattle.mol_spell_laws.proofs.StatementParts as parts
 use Rattle.mol_spell_laws.proofs.StatementTrees.{MaybeFits, BlockFits, BodyFits}
@@ -128,9 +128,9 @@ module _ (program : Program) (rules : IsProgram program) where
         → ((type_uses (type_tree program class (here id slot) type)).is_type ≡ true) ×
         (type_width (type_tree program class (here id slot) type) ≤ 255)
     type-here id slot type formed are =
-        let fits = type-fits (here id slot) rules id hides_none no_locals (λ text. type_asked text) type formed are in (
+        let fits = type-fits (here id slot) rules id hides_none no_locals type formed are in (
           ap (λ (u : TypeUses). u.is_type) fits.uses,
-          narrow-type (here id slot) rules id hides_none no_locals (λ text. type_asked text) _ _ _ _ fits (and_parts _ _ formed).1,
+          narrow-type (here id slot) rules id hides_none no_locals _ _ _ _ fits (and_parts _ _ formed).1,
         )
 
     -- ---- fields
@@ -228,7 +228,7 @@ module _ (program : Program) (rules : IsProgram program) where
         × (type_width (result_tree program class method (value_at program method slots.Result)) ≤ 255)
     result-here method kind is =
         let result = there-as slots.Result (λ type. values.Result type) result-is method (knowns.Method kind) is refl in
-        let fits = result-fits (here method slots.Result) rules method hides_none no_locals (λ text. type_asked text) result.0
+        let fits = result-fits (here method slots.Result) rules method hides_none no_locals result.0
         (result-formed (knowns.Method kind) result.0 result.1.1) (rules.references method slots.Result
         (values.Result result.0) result.1.0) in
         subst (λ (o : Option Value). ((type_uses (result_tree program class method o)).is_result ≡ true) ×

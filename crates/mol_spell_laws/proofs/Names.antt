@@ -24,7 +24,7 @@ use Rattle.jav_names.specs.DottedNames.{Name, Names, dot, Dotted, cut, last_of, 
 use Rattle.jav_names.specs.TypeTexts.{imported_text}
 use Rattle.mol_spell_rules.specs.SpelledExpressions.{no_name}
 use Rattle.mol_spell_rules.specs.Writers.{text_of}
-use Rattle.mol_values.specs.TokenForms.{is_empty}
+use Rattle.mol_values_types.specs.TokenForms.{is_empty}
 
 -- ---- one name
 

@@ -6,18 +6,18 @@ use Rattle.jav_tree.specs.declared.stmt.Stmt.{Stmt}
 use Rattle.jav_tree.specs.declared.stmt.StmtNode.{StmtNode}
 use Rattle.mol_spell_rules.specs.SpelledStatements.{Spells, else_step, node_step, if_step, stmt_step, block_step, spelled_block}
 use Rattle.mol_spell_rules.specs.Writers.{Writer}
-use Rattle.mol_table.specs.Mentions as mention
-use Rattle.mol_table.specs.Mentions.{Mention, block_mentions}
-use Rattle.mol_table.specs.StatementForms as forms
-use Rattle.mol_table.specs.StatementForms.{StatementShape, BlockShape, block_shape}
-use Rattle.mol_values.specs.declared.iblock.IBlock.{IBlock}
-use Rattle.mol_values.specs.declared.iblock.IElse.{IElse, fold-IElse}
-use Rattle.mol_values.specs.declared.iblock.IElse.TheFolds.{fold-roll-IElse, fold-roll-IStmtNode, fold-roll-IBlock, fold-roll-IIf, fold-roll-IStmt, map-IElse, map-IStmtNode, map-IBlock, map-IIf, map-IStmt}
-use Rattle.mol_values.specs.declared.iblock.IElse.TheOpen.{IElse-F, IStmtNode-F, IBlock-F, IIf-F, IStmt-F}
-use Rattle.mol_values.specs.declared.iblock.IElse.TheViews.{roll-IElse, roll-IStmtNode, roll-IBlock, roll-IIf, roll-IStmt}
-use Rattle.mol_values.specs.declared.iblock.IIf.{IIf, fold-IIf}
-use Rattle.mol_values.specs.declared.iblock.IStmt.{IStmt, fold-IStmt}
-use Rattle.mol_values.specs.declared.iblock.IStmtNode.{IStmtNode, fold-IStmtNode}
+use Rattle.mol_table_rules.specs.Mentions as mention
+use Rattle.mol_table_rules.specs.Mentions.{Mention, block_mentions}
+use Rattle.mol_table_rules.specs.StatementForms as forms
+use Rattle.mol_table_rules.specs.StatementForms.{StatementShape, BlockShape, block_shape}
+use Rattle.mol_values_types.specs.declared.iblock.IBlock.{IBlock}
+use Rattle.mol_values_types.specs.declared.iblock.IElse.{IElse, fold-IElse}
+use Rattle.mol_values_types.specs.declared.iblock.IElse.TheFolds.{fold-roll-IElse, fold-roll-IStmtNode, fold-roll-IBlock, fold-roll-IIf, fold-roll-IStmt, map-IElse, map-IStmtNode, map-IBlock, map-IIf, map-IStmt}
+use Rattle.mol_values_types.specs.declared.iblock.IElse.TheOpen.{IElse-F, IStmtNode-F, IBlock-F, IIf-F, IStmt-F}
+use Rattle.mol_values_types.specs.declared.iblock.IElse.TheViews.{roll-IElse, roll-IStmtNode, roll-IBlock, roll-IIf, roll-IStmt}
+use Rattle.mol_values_types.specs.declared.iblock.IIf.{IIf, fold-IIf}
+use Rattle.mol_values_types.specs.declared.iblock.IStmt.{IStmt, fold-IStmt}
+use Rattle.mol_values_types.specs.declared.iblock.IStmtNode.{IStmtNode, fold-IStmtNode}
 
 -- ---- shapes
 

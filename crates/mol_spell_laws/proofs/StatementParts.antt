@@ -21,20 +21,20 @@ use Rattle.mol_resolve_rules.specs.Locals.{Local, Locals}
 use Rattle.mol_resolve_rules.specs.ProgramViews.{seen}
 use Rattle.mol_spell_rules.specs.SpelledExpressions.{spelled_expr}
 use Rattle.mol_spell_rules.specs.SpelledStatements.{SpelledPart, Spells, mapped, then_next, each, one_expr, exprs, maybe_expr, declared_type, declaring, declarator, spelled_let, spelled_start}
-use Rattle.mol_spell_rules.specs.Writers.{Writer, hides_none, type_asked, Reference}
-use Rattle.mol_table.specs.ExpressionForms as shapes
-use Rattle.mol_table.specs.ExpressionForms.{Shape, shape_of, are_values, are_arguments, is_initial, is_expression, is_statement}
-use Rattle.mol_table.specs.Mentions.{Mention, type_mentions, expr_mentions, exprs_mentions, maybe_mentions, let_mentions, start_mentions}
-use Rattle.mol_table.specs.Program.{Program}
-use Rattle.mol_table.specs.Rules.{IsProgram}
-use Rattle.mol_table.specs.StatementForms.{is_maybe, is_declarator, is_let, is_start}
-use Rattle.mol_table.specs.TypeForms.{is_type, is_array, dimensions}
-use Rattle.mol_values.specs.declared.iblock.IDeclarator.{IDeclarator}
-use Rattle.mol_values.specs.declared.iblock.IForStart.{IForStart}
-use Rattle.mol_values.specs.declared.iblock.IForStart.TheVariants as starts
-use Rattle.mol_values.specs.declared.iblock.ILet.{ILet}
-use Rattle.mol_values.specs.declared.iexpr.IExpr.{IExpr}
-use Rattle.mol_values.specs.declared.itype.IType.{IType}
+use Rattle.mol_spell_rules.specs.Writers.{Writer, hides_none, Reference}
+use Rattle.mol_table_rules.specs.ExpressionForms as shapes
+use Rattle.mol_table_rules.specs.ExpressionForms.{Shape, shape_of, are_values, are_arguments, is_initial, is_expression, is_statement}
+use Rattle.mol_table_rules.specs.Mentions.{Mention, type_mentions, expr_mentions, exprs_mentions, maybe_mentions, let_mentions, start_mentions}
+use Rattle.mol_table_rules.specs.Program.{Program}
+use Rattle.mol_table_rules.specs.Rules.{IsProgram}
+use Rattle.mol_table_rules.specs.StatementForms.{is_maybe, is_declarator, is_let, is_start}
+use Rattle.mol_table_rules.specs.TypeForms.{is_type, is_array, dimensions}
+use Rattle.mol_values_types.specs.declared.iblock.IDeclarator.{IDeclarator}
+use Rattle.mol_values_types.specs.declared.iblock.IForStart.{IForStart}
+use Rattle.mol_values_types.specs.declared.iblock.IForStart.TheVariants as starts
+use Rattle.mol_values_types.specs.declared.iblock.ILet.{ILet}
+use Rattle.mol_values_types.specs.declared.iexpr.IExpr.{IExpr}
+use Rattle.mol_values_types.specs.declared.itype.IType.{IType}
 use Rattle.mol_spell_laws.proofs.ExpressionTrees.{Fits}
 use Rattle.mol_spell_laws.proofs.ExpressionParts.{are_named, uses_of, value-parts, PartFits}
 use Rattle.mol_spell_laws.proofs.Expressions.{expr-fits}
@@ -210,13 +210,13 @@ module _ (writer : Writer) (rules : IsProgram writer.program) (owner : Id) where
 
   pub type-here : (type : IType) → is_type type ≡ true → all (type_mentions type) ≡ true → (locals : Locals Id)
       → TypeFits program (is_array type) (is_class_type type) (dimensions type) (declared_type writer locals type)
-  type-here type formed are locals = type-fits writer rules owner hides_none locals (λ text. type_asked text) type formed are
+  type-here type formed are locals = type-fits writer rules owner hides_none locals type formed are
 
   pub narrow-here : (type : IType) → is_type type ≡ true → (locals : Locals Id)
       → TypeFits program (is_array type) (is_class_type type) (dimensions type) (declared_type writer locals type)
       → type_width (declared_type writer locals type).tree ≤ 255
   narrow-here type formed locals fits =
-      narrow-type writer rules owner hides_none locals (λ text. type_asked text) (is_array type) (is_class_type type) (dimensions type)
+      narrow-type writer rules owner hides_none locals (is_array type) (is_class_type type) (dimensions type)
       (declared_type writer locals type) fits (and_parts (is_named type) (nat_le (dimensions type) 255) formed).1
 
   abbrev declarators_mentions : List IDeclarator → List Mention

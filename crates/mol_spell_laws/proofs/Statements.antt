@@ -14,25 +14,25 @@ use Rattle.mol_resolve_rules.specs.ProgramViews.{seen}
 use Rattle.mol_spell_rules.specs.SpelledStatements.{SpelledPart, Spells, mapped, then_next, each, super_part, header, one_expr, exprs, declared_type, declaring, else_step, node_step, if_step, stmt_step, block_step}
 use Rattle.mol_spell_rules.specs.SpelledExpressions.{plain}
 use Rattle.mol_spell_rules.specs.Writers.{Writer, super_constructor_asked, Reference}
-use Rattle.mol_table.specs.ExpressionForms.{shape_of, are_arguments, is_expression, is_statement}
-use Rattle.mol_table.specs.Mentions as mention
-use Rattle.mol_table.specs.Mentions.{Mention, a_class, a_constructor, named, joined, type_mentions, expr_mentions, exprs_mentions, arguments_mentions, maybe_mentions, start_mentions, block_mentions}
-use Rattle.mol_table.specs.Rules.{IsProgram}
-use Rattle.mol_table.specs.StatementForms as forms
-use Rattle.mol_table.specs.StatementForms.{StatementShape, BlockShape, is_maybe, is_start, are_formed, has_super, block_shape}
-use Rattle.mol_table.specs.TypeForms.{is_type}
-use Rattle.mol_values.specs.declared.iblock.IBlock.{IBlock}
-use Rattle.mol_values.specs.declared.iblock.IElse.{IElse}
-use Rattle.mol_values.specs.declared.iblock.IElse.TheFolds.{map-IElse, map-IStmtNode, ind-IBlock}
-use Rattle.mol_values.specs.declared.iblock.IElse.TheOpen.{IElse-F, IStmtNode-F, IBlock-F, IIf-F, IStmt-F}
-use Rattle.mol_values.specs.declared.iblock.IElse.TheViews.{roll-IElse, roll-IStmtNode, roll-IBlock, roll-IIf, roll-IStmt}
-use Rattle.mol_values.specs.declared.iblock.IForStart.{IForStart}
-use Rattle.mol_values.specs.declared.iblock.IIf.{IIf}
-use Rattle.mol_values.specs.declared.iblock.IStmt.{IStmt}
-use Rattle.mol_values.specs.declared.iblock.IStmtNode.{IStmtNode}
-use Rattle.mol_values.specs.declared.iexpr.Argument.{Argument}
-use Rattle.mol_values.specs.declared.iexpr.IExpr.{IExpr}
-use Rattle.mol_values.specs.declared.itype.IType.{IType}
+use Rattle.mol_table_rules.specs.ExpressionForms.{shape_of, are_arguments, is_expression, is_statement}
+use Rattle.mol_table_rules.specs.Mentions as mention
+use Rattle.mol_table_rules.specs.Mentions.{Mention, a_class, a_constructor, named, joined, type_mentions, expr_mentions, exprs_mentions, arguments_mentions, maybe_mentions, start_mentions, block_mentions}
+use Rattle.mol_table_rules.specs.Rules.{IsProgram}
+use Rattle.mol_table_rules.specs.StatementForms as forms
+use Rattle.mol_table_rules.specs.StatementForms.{StatementShape, BlockShape, is_maybe, is_start, are_formed, has_super, block_shape}
+use Rattle.mol_table_rules.specs.TypeForms.{is_type}
+use Rattle.mol_values_types.specs.declared.iblock.IBlock.{IBlock}
+use Rattle.mol_values_types.specs.declared.iblock.IElse.{IElse}
+use Rattle.mol_values_types.specs.declared.iblock.IElse.TheFolds.{map-IElse, map-IStmtNode, ind-IBlock}
+use Rattle.mol_values_types.specs.declared.iblock.IElse.TheOpen.{IElse-F, IStmtNode-F, IBlock-F, IIf-F, IStmt-F}
+use Rattle.mol_values_types.specs.declared.iblock.IElse.TheViews.{roll-IElse, roll-IStmtNode, roll-IBlock, roll-IIf, roll-IStmt}
+use Rattle.mol_values_types.specs.declared.iblock.IForStart.{IForStart}
+use Rattle.mol_values_types.specs.declared.iblock.IIf.{IIf}
+use Rattle.mol_values_types.specs.declared.iblock.IStmt.{IStmt}
+use Rattle.mol_values_types.specs.declared.iblock.IStmtNode.{IStmtNode}
+use Rattle.mol_values_types.specs.declared.iexpr.Argument.{Argument}
+use Rattle.mol_values_types.specs.declared.iexpr.IExpr.{IExpr}
+use Rattle.mol_values_types.specs.declared.itype.IType.{IType}
 use Rattle.mol_spell_laws.proofs.StatementFolds.{else_shape, node_shape, if_shape, stmt_shape, else-shape-is, node-shape-is, block-shape-is, if-shape-is, stmt-shape-is, Mentions, else_mentions, node_mentions, if_mentions, stmt_mentions, else-mentions-are, node-mentions-are, block-mentions-are, if-mentions-are, stmt-mentions-are, SElse, SNode, SBlock, SStmt, of_else, of_node, of_block, of_if, of_stmt, else-written, node-written, block-written, if-written, stmt-written}
 use Rattle.mol_spell_laws.proofs.StatementParts as parts
 use Rattle.mol_spell_laws.proofs.StatementTrees.{ValueFits, EffectsFit, MaybeFits, StartFits, BlockFits, BodyFits, ElseFits, NodeFits, ChoiceFits, LineFits, LinesFit, BodyLinesFit, fits-Block, fits-Let, fits-Do, fits-If, fits-While, fits-For, fits-Each, fits-Return, fits-Throw, fits-Break, fits-Continue, fits-Empty, fits-SuperInit, fits-no-else, fits-else-block, fits-else-if, fits-stmt, no-lines, more-lines, no-body-lines, first-line, fits-block, fits-body}

@@ -23,40 +23,40 @@ use Rattle.mol_spell_rules.specs.SimpleNames.{imports_in, unit_writer, unit_refe
 use Rattle.mol_spell_rules.specs.SpelledStatements.{Spells, node_step, block_step, spelled_block}
 use Rattle.mol_spell_rules.specs.UnitCells.{is_owned_by, member_in, members_of, member_cells, printed_cells, reader_as, references_in}
 use Rattle.mol_spell_rules.specs.Writers.{Writer, super_constructor_asked, Reference}
-use Rattle.mol_table.proofs.Counts.{none-some, some-same}
-use Rattle.mol_table.proofs.Living.{id_tied}
+use Rattle.mol_table_rules.proofs.Counts.{none-some, some-same}
+use Rattle.mol_table_rules.proofs.Living.{id_tied}
 use Rattle.std.proofs.lemmas.Cmp.{tied_itself}
-use Rattle.mol_table.proofs.TidyRules.{tidied-at, living-kept, tidy-IsProgram}
-use Rattle.mol_table.specs.Faults.{Missing, is_there}
-use Rattle.mol_table.specs.Forms.{is_formed}
-use Rattle.mol_table.specs.Life.{is_decl_of, lives_method, lives_as, lives, entity_in, is_living_entity}
-use Rattle.mol_table.specs.Mentions as mention
-use Rattle.mol_table.specs.Mentions.{Role, Mention, a_class, a_constructor, named, joined, arguments_mentions, block_mentions}
-use Rattle.mol_table.specs.Program.{Program, same_id, value_at, living_at, cell}
-use Rattle.mol_table.specs.Renumber.{is_living_class}
-use Rattle.mol_table.specs.Rules.{IsProgram, fills}
-use Rattle.mol_table.specs.StatementForms as forms
-use Rattle.mol_table.specs.StatementForms.{StatementShape, BlockShape, are_formed, has_super, block_shape, is_body}
-use Rattle.mol_table.specs.Tidy.{tidied, tidy}
-use Rattle.mol_values.specs.TokenForms.{are_comments}
-use Rattle.mol_values.specs.Slots.{same_slot}
-use Rattle.mol_values.specs.declared.cell.Cell.{Cell}
-use Rattle.mol_values.specs.declared.cell.Slot.TheVariants as slots
-use Rattle.mol_values.specs.declared.iblock.IBlock.{IBlock}
-use Rattle.mol_values.specs.declared.iblock.IBody.{IBody}
-use Rattle.mol_values.specs.declared.iblock.IElse.{IElse}
-use Rattle.mol_values.specs.declared.iblock.IElse.TheFolds.{map-IStmtNode, ind-IBlock}
-use Rattle.mol_values.specs.declared.iblock.IElse.TheOpen.{IStmtNode-F, IBlock-F, IStmt-F}
-use Rattle.mol_values.specs.declared.iblock.IElse.TheViews.{roll-IStmtNode, roll-IBlock, roll-IStmt}
-use Rattle.mol_values.specs.declared.iblock.IIf.{IIf}
-use Rattle.mol_values.specs.declared.iblock.IStmt.{IStmt}
-use Rattle.mol_values.specs.declared.iblock.IStmtNode.{IStmtNode}
-use Rattle.mol_values.specs.declared.kind.MethodKind.{MethodKind}
-use Rattle.mol_values.specs.declared.kind.MethodKind.TheVariants.{Instance, Static, Constructor}
-use Rattle.mol_values.specs.declared.known.Known.{Known}
-use Rattle.mol_values.specs.declared.known.Known.TheVariants as knowns
-use Rattle.mol_values.specs.declared.value.Value.{Value}
-use Rattle.mol_values.specs.declared.value.Value.TheVariants as values
+use Rattle.mol_table_rules.proofs.TidyRules.{tidied-at, living-kept, tidy-IsProgram}
+use Rattle.mol_table_rules.specs.Faults.{Missing, is_there}
+use Rattle.mol_table_rules.specs.Forms.{is_formed}
+use Rattle.mol_table_rules.specs.Life.{is_decl_of, lives_method, lives_as, lives, entity_in, is_living_entity}
+use Rattle.mol_table_rules.specs.Mentions as mention
+use Rattle.mol_table_rules.specs.Mentions.{Role, Mention, a_class, a_constructor, named, joined, arguments_mentions, block_mentions}
+use Rattle.mol_table_rules.specs.Program.{Program, same_id, value_at, living_at, cell}
+use Rattle.mol_table_rules.specs.Renumber.{is_living_class}
+use Rattle.mol_table_rules.specs.Rules.{IsProgram, fills}
+use Rattle.mol_table_rules.specs.StatementForms as forms
+use Rattle.mol_table_rules.specs.StatementForms.{StatementShape, BlockShape, are_formed, has_super, block_shape, is_body}
+use Rattle.mol_table_rules.specs.Tidy.{tidied, tidy}
+use Rattle.mol_values_types.specs.TokenForms.{are_comments}
+use Rattle.mol_values_types.specs.Slots.{same_slot}
+use Rattle.mol_values_types.specs.declared.cell.Cell.{Cell}
+use Rattle.mol_values_types.specs.declared.cell.Slot.TheVariants as slots
+use Rattle.mol_values_types.specs.declared.iblock.IBlock.{IBlock}
+use Rattle.mol_values_types.specs.declared.iblock.IBody.{IBody}
+use Rattle.mol_values_types.specs.declared.iblock.IElse.{IElse}
+use Rattle.mol_values_types.specs.declared.iblock.IElse.TheFolds.{map-IStmtNode, ind-IBlock}
+use Rattle.mol_values_types.specs.declared.iblock.IElse.TheOpen.{IStmtNode-F, IBlock-F, IStmt-F}
+use Rattle.mol_values_types.specs.declared.iblock.IElse.TheViews.{roll-IStmtNode, roll-IBlock, roll-IStmt}
+use Rattle.mol_values_types.specs.declared.iblock.IIf.{IIf}
+use Rattle.mol_values_types.specs.declared.iblock.IStmt.{IStmt}
+use Rattle.mol_values_types.specs.declared.iblock.IStmtNode.{IStmtNode}
+use Rattle.mol_values_types.specs.declared.kind.MethodKind.{MethodKind}
+use Rattle.mol_values_types.specs.declared.kind.MethodKind.TheVariants.{Instance, Static, Constructor}
+use Rattle.mol_values_types.specs.declared.known.Known.{Known}
+use Rattle.mol_values_types.specs.declared.known.Known.TheVariants as knowns
+use Rattle.mol_values_types.specs.declared.value.Value.{Value}
+use Rattle.mol_values_types.specs.declared.value.Value.TheVariants as values
 use Rattle.mol_spell_laws.proofs.KnownNames.{class-fills, constructor-fills}
 use Rattle.mol_spell_laws.proofs.StatementFolds.{else_shape, node_shape, if_shape, stmt_shape, node-shape-is, block-shape-is, stmt-shape-is, Mentions, else_mentions, node_mentions, if_mentions, stmt_mentions, node-mentions-are, block-mentions-are, stmt-mentions-are, SBlock, of_else, of_node, of_if, of_stmt, node-written, block-written, stmt-written}
 use Rattle.mol_spell_laws.proofs.Units.{each-passes}

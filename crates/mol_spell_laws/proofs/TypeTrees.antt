@@ -18,17 +18,17 @@ use Rattle.jav_names.specs.DottedNames.{Name, cut}
 use Rattle.jav_names.specs.TypeTexts.{imported_text}
 use Rattle.mol_resolve_rules.specs.Locals.{Locals}
 use Rattle.mol_spell_rules.specs.SpelledTypes.{SpelledType, type_step, spelled_type}
-use Rattle.mol_spell_rules.specs.Writers.{Importable, program_class, outside_import, full_of, simple_of, Writer, spelled, text_of, Use, importable_use, written_use, use_of, Asked, Reference}
-use Rattle.mol_table.specs.Mentions as mentions
-use Rattle.mol_table.specs.Mentions.{Mention, a_class, type_mentions}
-use Rattle.mol_table.specs.Program.{Program}
-use Rattle.mol_table.specs.Rules.{IsProgram, fills}
-use Rattle.mol_values.specs.TokenForms.{is_empty}
-use Rattle.mol_table.specs.TypeForms.{named_step, dimensions_step, dimensions, is_type, void_step, is_void, array_step, is_array, outside_step, class_step, is_class}
-use Rattle.mol_values.specs.declared.itype.IType.{IType, fold-IType}
-use Rattle.mol_values.specs.declared.itype.IType.TheFolds.{fold-roll-IType, ind-IType, map-IType}
-use Rattle.mol_values.specs.declared.itype.IType.TheOpen.{IType-F}
-use Rattle.mol_values.specs.declared.itype.IType.TheViews.{roll-IType}
+use Rattle.mol_spell_rules.specs.Writers.{Importable, program_class, outside_import, full_of, simple_of, Writer, spelled, text_of, Use, importable_use, written_use, use_of, Reference}
+use Rattle.mol_table_rules.specs.Mentions as mentions
+use Rattle.mol_table_rules.specs.Mentions.{Mention, a_class, type_mentions}
+use Rattle.mol_table_rules.specs.Program.{Program}
+use Rattle.mol_table_rules.specs.Rules.{IsProgram, fills}
+use Rattle.mol_values_types.specs.TokenForms.{is_empty}
+use Rattle.mol_table_rules.specs.TypeForms.{named_step, dimensions_step, dimensions, is_type, void_step, is_void, array_step, is_array, outside_step, class_step, is_class}
+use Rattle.mol_values_types.specs.declared.itype.IType.{IType, fold-IType}
+use Rattle.mol_values_types.specs.declared.itype.IType.TheFolds.{fold-roll-IType, ind-IType, map-IType}
+use Rattle.mol_values_types.specs.declared.itype.IType.TheOpen.{IType-F}
+use Rattle.mol_values_types.specs.declared.itype.IType.TheViews.{roll-IType}
 use Rattle.std.specs.FinMap.{get}
 use Rattle.mol_spell_laws.proofs.KnownNames.{class-fills, MayBeImported, full-dotted, simple-named}
 use Rattle.mol_spell_laws.proofs.Names.{AreNames, one-name, cut-names, dotted-imported}
@@ -115,12 +115,12 @@ module _ (writer : Writer) (rules : IsProgram writer.program) where
     by true = one-name (simple_of writer.program what) (simple-named writer.program rules what may)
     by false = cut-names (full_of writer.program what) (full-dotted writer.program rules what may)
 
-  module _ (owner : Id) (hides : Name → Bool) (locals : Locals Id) (asks : Name → Asked) where
+  module _ (owner : Id) (hides : Name → Bool) (locals : Locals Id) where
     abbrev written : IType → SpelledType
-    written = spelled_type writer hides locals asks
+    written = spelled_type writer hides locals
 
     abbrev step : IType-F SpelledType → SpelledType
-    step = type_step writer hides locals asks
+    step = type_step writer hides locals
 
     -- of a type that is `void` or has its form, and mentions what is known
     record Claim (formed alone array own outside : Bool) (pairs : ℕ) (mentioned : List Mention) (type : SpelledType) : Type 0 where

@@ -32,22 +32,22 @@ use Rattle.mol_spell_rules.proofs.SetItems.{set-ascends, set-has}
 use Rattle.mol_spell_rules.specs.SimpleNames.{uses_at, uses_in, needs_import, import_of, imports_in}
 use Rattle.mol_spell_rules.specs.SpelledUnits.{words_at, notes_in, notes_at, writing, type_tree, parent_tree, spelled_member, class_tree, unit_tree}
 use Rattle.mol_spell_rules.specs.UnitCells.{is_owned_by, member_in, members_of, printed_cells, cell_writer, references_in, references_at}
-use Rattle.mol_spell_rules.specs.Writers.{full_of, Writer, hides_none, type_asked, Use, importable_use, written_use, Reference}
-use Rattle.mol_table.proofs.Changing.{owner-known}
-use Rattle.mol_table.proofs.Counts.{none-some, some-same, each_found}
-use Rattle.mol_table.specs.Program.{Program, value_at, living_at}
-use Rattle.mol_table.specs.Renumber.{is_class, is_living_class}
-use Rattle.mol_table.specs.Rules.{IsProgram}
-use Rattle.mol_table.specs.TypeForms as types
-use Rattle.mol_values.specs.Words.{are_words}
-use Rattle.mol_values.proofs.Lookups.{not_absent}
-use Rattle.mol_values.specs.declared.cell.Cell.{Cell}
-use Rattle.mol_values.specs.declared.cell.Slot.TheVariants as slots
-use Rattle.mol_values.specs.declared.itype.IType.{IType}
-use Rattle.mol_values.specs.declared.known.Known.{Known}
-use Rattle.mol_values.specs.declared.known.Known.TheVariants as knowns
-use Rattle.mol_values.specs.declared.value.Value.{Value}
-use Rattle.mol_values.specs.declared.value.Value.TheVariants as values
+use Rattle.mol_spell_rules.specs.Writers.{full_of, Writer, hides_none, Use, importable_use, written_use, Reference}
+use Rattle.mol_table_rules.proofs.CellOwners.{owner-known}
+use Rattle.mol_table_rules.proofs.Counts.{none-some, some-same, each_found}
+use Rattle.mol_table_rules.specs.Program.{Program, value_at, living_at}
+use Rattle.mol_table_rules.specs.Renumber.{is_class, is_living_class}
+use Rattle.mol_table_rules.specs.Rules.{IsProgram}
+use Rattle.mol_table_rules.specs.TypeForms as types
+use Rattle.mol_values_types.specs.Words.{are_words}
+use Rattle.mol_values_types.proofs.Lookups.{not_absent}
+use Rattle.mol_values_types.specs.declared.cell.Cell.{Cell}
+use Rattle.mol_values_types.specs.declared.cell.Slot.TheVariants as slots
+use Rattle.mol_values_types.specs.declared.itype.IType.{IType}
+use Rattle.mol_values_types.specs.declared.known.Known.{Known}
+use Rattle.mol_values_types.specs.declared.known.Known.TheVariants as knowns
+use Rattle.mol_values_types.specs.declared.value.Value.{Value}
+use Rattle.mol_values_types.specs.declared.value.Value.TheVariants as values
 use Rattle.mol_spell_laws.proofs.KnownNames.{class-named, class-packaged}
 use Rattle.mol_spell_laws.proofs.Members.{MemberFits, there-as, member-fits}
 use Rattle.mol_spell_laws.proofs.TypeTrees.{is_use, are_uses, parent-fits}
@@ -231,8 +231,7 @@ module _ (program : Program) (rules : IsProgram program) (class : Id) where
               → is_parent (option_map (type_tree program class (writing program class class slots.Super)) parent) ≡ true
           by None held formed = refl
           by (Some parent) held formed =
-              (parent-fits (writing program class class slots.Super) rules class hides_none no_locals
-              (λ text. type_asked text) parent formed
+              (parent-fits (writing program class class slots.Super) rules class hides_none no_locals parent formed
               (rules.references class slots.Super (values.Super (Some parent)) held)).class
 
     pub unit-printable : IsPrintable (unit_tree program class)

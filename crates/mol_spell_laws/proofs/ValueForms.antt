@@ -3,23 +3,23 @@ use Rattle.std.proofs.Common.{◌≡◌, true, Option, refl, sym, true≢false}
 use Rattle.std.specs.Prelude.{◌&&◌}
 use Rattle.std.specs.Option.{option_map_or}
 use Rattle.std.proofs.lemmas.Bool.{or_left}
-use Rattle.mol_table.specs.ExpressionForms.{is_initial}
-use Rattle.mol_table.specs.Forms.{is_formed, are_params}
-use Rattle.mol_table.specs.StatementForms.{is_body}
-use Rattle.mol_table.specs.TypeForms.{is_type, is_void, is_result, is_class}
-use Rattle.mol_values.specs.Slots.{slot_of, same_slot}
-use Rattle.mol_values.specs.declared.cell.Slot.TheVariants as slots
-use Rattle.mol_values.specs.declared.iblock.IBody.{IBody}
-use Rattle.mol_values.specs.declared.iexpr.IExpr.{IExpr}
-use Rattle.mol_values.specs.declared.itype.IType.{IType}
-use Rattle.mol_values.specs.declared.kind.MethodKind.TheVariants.{Instance, Static, Constructor}
-use Rattle.mol_values.specs.declared.known.Known.{Known}
-use Rattle.mol_values.specs.declared.known.Known.TheVariants as knowns
-use Rattle.mol_values.specs.declared.param.Param.{Param}
-use Rattle.mol_values.specs.declared.value.Value.{Value}
-use Rattle.mol_values.specs.declared.value.Value.TheVariants as values
-use Rattle.mol_values.specs.declared.words.Notes.{Notes}
-use Rattle.mol_values.specs.declared.words.Words.{Words}
+use Rattle.mol_table_rules.specs.ExpressionForms.{is_initial}
+use Rattle.mol_table_rules.specs.Forms.{is_formed, are_params}
+use Rattle.mol_table_rules.specs.StatementForms.{is_body}
+use Rattle.mol_table_rules.specs.TypeForms.{is_type, is_void, is_result, is_class}
+use Rattle.mol_values_types.specs.Slots.{slot_of, same_slot}
+use Rattle.mol_values_types.specs.declared.cell.Slot.TheVariants as slots
+use Rattle.mol_values_types.specs.declared.iblock.IBody.{IBody}
+use Rattle.mol_values_types.specs.declared.iexpr.IExpr.{IExpr}
+use Rattle.mol_values_types.specs.declared.itype.IType.{IType}
+use Rattle.mol_values_types.specs.declared.kind.MethodKind.TheVariants.{Instance, Static, Constructor}
+use Rattle.mol_values_types.specs.declared.known.Known.{Known}
+use Rattle.mol_values_types.specs.declared.known.Known.TheVariants as knowns
+use Rattle.mol_values_types.specs.declared.param.Param.{Param}
+use Rattle.mol_values_types.specs.declared.value.Value.{Value}
+use Rattle.mol_values_types.specs.declared.value.Value.TheVariants as values
+use Rattle.mol_values_types.specs.declared.words.Notes.{Notes}
+use Rattle.mol_values_types.specs.declared.words.Words.{Words}
 use Rattle.std.specs.Prelude.{List}
 
 pub super-is : (value : Value) → same_slot (slot_of value) slots.Super ≡ true → (parent : Option IType) × (value ≡ values.Super parent)

@@ -7,22 +7,22 @@ use Rattle.std.proofs.lemmas.Bool.{and_parts}
 use Rattle.mol_base.specs.declared.ident.Id.{Id}
 use Rattle.mol_resolve_rules.specs.Locals.{no_locals}
 use Rattle.mol_spell_rules.specs.UnitCells.{type_references, first_value_references, references_in}
-use Rattle.mol_spell_rules.specs.Writers.{Writer, hides_none, type_asked, Reference}
-use Rattle.mol_table.specs.ExpressionForms.{is_initial}
-use Rattle.mol_table.specs.Forms.{is_param, is_formed, has_form}
-use Rattle.mol_table.specs.Mentions.{Mention, a_listed_param, named, mentions, param_mentions, parent_mentions, type_mentions, maybe_mentions, body_mentions}
-use Rattle.mol_table.specs.Rules.{IsProgram}
-use Rattle.mol_table.specs.StatementForms.{is_body}
-use Rattle.mol_table.specs.TypeForms.{is_type, is_result, is_class}
-use Rattle.mol_values.specs.Slots.{slot_of, same_slot}
-use Rattle.mol_values.specs.declared.cell.Slot.{Slot}
-use Rattle.mol_values.specs.declared.iblock.IBody.{IBody}
-use Rattle.mol_values.specs.declared.iexpr.IExpr.{IExpr}
-use Rattle.mol_values.specs.declared.itype.IType.{IType}
-use Rattle.mol_values.specs.declared.known.Known.{Known}
-use Rattle.mol_values.specs.declared.param.Param.{Param}
-use Rattle.mol_values.specs.declared.value.Value.{Value}
-use Rattle.mol_values.specs.declared.value.Value.TheVariants as values
+use Rattle.mol_spell_rules.specs.Writers.{Writer, hides_none, Reference}
+use Rattle.mol_table_rules.specs.ExpressionForms.{is_initial}
+use Rattle.mol_table_rules.specs.Forms.{is_param, is_formed, has_form}
+use Rattle.mol_table_rules.specs.Mentions.{Mention, a_listed_param, named, mentions, param_mentions, parent_mentions, type_mentions, maybe_mentions, body_mentions}
+use Rattle.mol_table_rules.specs.Rules.{IsProgram}
+use Rattle.mol_table_rules.specs.StatementForms.{is_body}
+use Rattle.mol_table_rules.specs.TypeForms.{is_type, is_result, is_class}
+use Rattle.mol_values_types.specs.Slots.{slot_of, same_slot}
+use Rattle.mol_values_types.specs.declared.cell.Slot.{Slot}
+use Rattle.mol_values_types.specs.declared.iblock.IBody.{IBody}
+use Rattle.mol_values_types.specs.declared.iexpr.IExpr.{IExpr}
+use Rattle.mol_values_types.specs.declared.itype.IType.{IType}
+use Rattle.mol_values_types.specs.declared.known.Known.{Known}
+use Rattle.mol_values_types.specs.declared.param.Param.{Param}
+use Rattle.mol_values_types.specs.declared.value.Value.{Value}
+use Rattle.mol_values_types.specs.declared.value.Value.TheVariants as values
 use Rattle.mol_spell_laws.proofs.StatementParts as parts
 use Rattle.mol_spell_laws.proofs.Statements.{block-right}
 use Rattle.mol_spell_laws.proofs.TypeTrees.{are_uses, both-use, are_known, both-known, type-fits, result-fits, parent-fits}
@@ -36,16 +36,15 @@ module _ (writer : Writer) (rules : IsProgram writer.program) (owner : Id) where
   uses = are_uses writer.program
 
   type-uses : (type : IType) → is_type type ≡ true → all (type_mentions type) ≡ true → uses (type_references writer type) ≡ true
-  type-uses type formed are = (type-fits writer rules owner hides_none no_locals (λ text. type_asked text) type formed are).names
+  type-uses type formed are = (type-fits writer rules owner hides_none no_locals type formed are).names
 
   result-uses : (type : IType) → is_result type ≡ true → all (type_mentions type) ≡ true → uses (type_references writer type) ≡ true
-  result-uses type formed are = (result-fits writer rules owner hides_none no_locals (λ text. type_asked text) type formed are).names
+  result-uses type formed are = (result-fits writer rules owner hides_none no_locals type formed are).names
 
   super-uses : (parent : Option IType) → option_map_or is_class parent true ≡ true → all (parent_mentions parent) ≡ true
       → uses (references_in writer (Some (values.Super parent))) ≡ true
   super-uses None formed are = refl
-  super-uses (Some parent) formed are = (parent-fits writer rules owner hides_none no_locals
-      (λ text. type_asked text) parent formed are).names
+  super-uses (Some parent) formed are = (parent-fits writer rules owner hides_none no_locals parent formed are).names
 
   params-uses : (params : List Param) → list_all is_param params ≡ true → all (flat_map param_mentions params) ≡ true
       → uses (flat_map (λ (param : Param). type_references writer param.ty) params) ≡ true

@@ -13,7 +13,7 @@ use Rattle.mol_base.proofs.Allowed.{AllowedWords-test}
 use Rattle.mol_base.specs.Among.{among}
 use Rattle.mol_base.specs.Modifiers.{class_words, field_words, constructor_words, method_words, abstract_words, kept_words, times, in_order, kept_of_method, has_one_access, AllowedWords, AreInOrder, ClassWords, FieldWords, ConstructorWords, MethodWords, AbstractWords}
 use Rattle.jav_names.specs.DottedNames.{Name}
-use Rattle.mol_values.specs.Words.{are_words}
+use Rattle.mol_values_types.specs.Words.{are_words}
 
 abbrev Texts : Type 0
 Texts = List Name

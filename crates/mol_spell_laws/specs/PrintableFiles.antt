@@ -8,15 +8,15 @@ use Rattle.jav_tree.specs.Widths.{unit_width}
 use Rattle.mol_spell_rules.specs.Clean.{Clean}
 use Rattle.mol_spell_rules.specs.NameFaults.{IsLivingDeclaration}
 use Rattle.mol_spell_rules.specs.SpelledUnits.{SpelledUnit, units_of, spelling}
-use Rattle.mol_table.specs.Program.{Program, value_at}
-use Rattle.mol_table.specs.Renumber.{is_living_class}
-use Rattle.mol_table.specs.Rules.{IsProgram}
-use Rattle.mol_table.specs.StatementForms.{block_shape}
-use Rattle.mol_values.specs.declared.cell.Slot.TheVariants as slots
-use Rattle.mol_values.specs.declared.iblock.IBody.{IBody}
-use Rattle.mol_values.specs.declared.kind.MethodKind.{MethodKind}
-use Rattle.mol_values.specs.declared.kind.MethodKind.TheVariants.{Constructor}
-use Rattle.mol_values.specs.declared.value.Value.TheVariants as values
+use Rattle.mol_table_rules.specs.Program.{Program, value_at}
+use Rattle.mol_table_rules.specs.Renumber.{is_living_class}
+use Rattle.mol_table_rules.specs.Rules.{IsProgram}
+use Rattle.mol_table_rules.specs.StatementForms.{block_shape}
+use Rattle.mol_values_types.specs.declared.cell.Slot.TheVariants as slots
+use Rattle.mol_values_types.specs.declared.iblock.IBody.{IBody}
+use Rattle.mol_values_types.specs.declared.kind.MethodKind.{MethodKind}
+use Rattle.mol_values_types.specs.declared.kind.MethodKind.TheVariants.{Constructor}
+use Rattle.mol_values_types.specs.declared.value.Value.TheVariants as values
 
 -- A file has a tree that the grammar has, but for parentheses and height, within the limit of number, and with no parentheses in it.
 pub record IsPrintableFile (file : SpelledUnit) : Type 0 where

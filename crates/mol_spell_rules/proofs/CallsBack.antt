@@ -18,11 +18,11 @@ use Rattle.mol_resolve_rules.specs.Readers.{Reader}
 use Rattle.mol_resolve_rules.specs.ReadTrees.{Meant, Mode, Reading, ClassPath, whole_path, front_path, no_path, path_of, with_params, values_of, arguments_of, call_here, call_through, call_on, call_meant, reading}
 use Rattle.mol_resolve_rules.specs.Says.{NamesMethod, as_own_call, as_static_call, Says, SaysAll, SaysArguments, one_method, in_call_on, in_outside_call, in_outside_call_on}
 use Rattle.mol_resolve_rules.specs.StaticTypes.{result_value}
-use Rattle.mol_table.specs.Program.{params_at}
-use Rattle.mol_values.specs.declared.iexpr.Argument.{Argument}
-use Rattle.mol_values.specs.declared.iexpr.IExpr.{IExpr}
-use Rattle.mol_values.specs.declared.iexpr.IExpr.TheVariants as exprs
-use Rattle.mol_values.specs.declared.param.Param.{Param}
+use Rattle.mol_table_rules.specs.Program.{params_at}
+use Rattle.mol_values_types.specs.declared.iexpr.Argument.{Argument}
+use Rattle.mol_values_types.specs.declared.iexpr.IExpr.{IExpr}
+use Rattle.mol_values_types.specs.declared.iexpr.IExpr.TheVariants as exprs
+use Rattle.mol_values_types.specs.declared.param.Param.{Param}
 use Rattle.mol_spell_rules.proofs.NamesBack.{answered-by, view-ordered, never-this, value_of, IsBack}
 use Rattle.mol_spell_rules.proofs.ValuesBack.{IsApart, names-of}
 use Rattle.mol_spell_rules.specs.Answers.{method_of, method_through_answer, on_value_answer, call_answer}

@@ -4,18 +4,18 @@ use Rattle.std.specs.FinMap.{find, entries, entries-from_sorted}
 use Rattle.std.specs.List.{cons_option, flat_map}
 use Rattle.mol_base.specs.Order.{id_cmp}
 use Rattle.mol_base.specs.declared.ident.Id.{Id}
-use Rattle.mol_table.specs.Program.{Program, value_at, name_in, package_in, cell}
-use Rattle.mol_values.specs.Order.{cell_cmp}
-use Rattle.mol_values.specs.declared.cell.Cell.{Cell}
-use Rattle.mol_values.specs.declared.cell.Slot.{Slot}
-use Rattle.mol_values.specs.declared.cell.Slot.TheVariants as slots
-use Rattle.mol_values.specs.declared.itype.IType.TheOpen.{IType-F}
-use Rattle.mol_values.specs.declared.itype.IType.TheVariants as itypes
-use Rattle.mol_values.specs.declared.known.Known.{Known}
-use Rattle.mol_values.specs.declared.known.Known.TheVariants as knowns
-use Rattle.mol_values.specs.declared.value.Value.{Value}
-use Rattle.mol_values.specs.declared.value.Value.TheVariants as values
-use Rattle.mol_values.specs.declared.words.Notes.{Notes}
+use Rattle.mol_table_rules.specs.Program.{Program, value_at, name_in, package_in, cell}
+use Rattle.mol_values_types.specs.Order.{cell_cmp}
+use Rattle.mol_values_types.specs.declared.cell.Cell.{Cell}
+use Rattle.mol_values_types.specs.declared.cell.Slot.{Slot}
+use Rattle.mol_values_types.specs.declared.cell.Slot.TheVariants as slots
+use Rattle.mol_values_types.specs.declared.itype.IType.TheOpen.{IType-F}
+use Rattle.mol_values_types.specs.declared.itype.IType.TheVariants as itypes
+use Rattle.mol_values_types.specs.declared.known.Known.{Known}
+use Rattle.mol_values_types.specs.declared.known.Known.TheVariants as knowns
+use Rattle.mol_values_types.specs.declared.value.Value.{Value}
+use Rattle.mol_values_types.specs.declared.value.Value.TheVariants as values
+use Rattle.mol_values_types.specs.declared.words.Notes.{Notes}
 use Rattle.jav_tree.specs.declared.types.TypeName.TheVariants as types
 use Rattle.jav_tree.proofs.StatementTexts.{text-Named}
 use Rattle.jav_tree.specs.Layout.{unit_text}
@@ -33,7 +33,7 @@ use Rattle.mol_spell_rules.specs.SpelledStatements.{declared_type}
 use Rattle.mol_spell_rules.specs.SpelledTypes.{SpelledType, spelled_type}
 use Rattle.mol_spell_rules.specs.SpelledUnits.{words_at, notes_in, notes_at, parent_tree, field_member, spelled_member, unit_tree}
 use Rattle.mol_spell_rules.specs.UnitCells.{member_cells, printed_cells, members_of, cell_writer, references_in}
-use Rattle.mol_spell_rules.specs.Writers.{Writer, hides_none, importable_use, outside_import, type_asked, Reference}
+use Rattle.mol_spell_rules.specs.Writers.{Writer, hides_none, importable_use, outside_import, Reference}
 
 abbrev date : Name
 date = codes "java.util.Date"
@@ -65,9 +65,9 @@ members = simp (entries-are, holds-at (base 2) slots.Live, holds-at (base 2) slo
 
 -- ---- what the file uses and imports
 
-date-type : (writer : Writer) → spelled_type writer hides_none no_locals (λ text. type_asked text) (itypes.Imported date [])
-    ≡ type_of_parts writer hides_none no_locals (λ text. type_asked text) (IType-F.Imported date [])
-date-type writer = type-Imported writer hides_none no_locals (λ text. type_asked text) date []
+date-type : (writer : Writer) → spelled_type writer hides_none no_locals (itypes.Imported date [])
+    ≡ type_of_parts writer hides_none no_locals (IType-F.Imported date [])
+date-type writer = type-Imported writer hides_none no_locals date []
 
 no_super : value_at program (base 1) slots.Super ≡ Some (values.Super None)
 no_super = holds-at (base 1) slots.Super

@@ -6,12 +6,12 @@ use Rattle.std.specs.FinMap.{nat_cmp-IsAntisymmetric, slice_cmp-IsAntisymmetric}
 use Rattle.mol_base.specs.Order.{id_cmp}
 use Rattle.mol_base.specs.declared.ident.Id.{Id}
 use Rattle.mol_spell_rules.specs.references.References.{Target, field_target, outside_target}
-use Rattle.mol_table.specs.Program.{Program, package_at, name_at}
-use Rattle.mol_values.specs.declared.iexpr.IExpr.{IExpr}
-use Rattle.mol_values.specs.declared.iexpr.IExpr.TheFolds.{fold-roll-IExpr}
-use Rattle.mol_values.specs.declared.iexpr.IExpr.TheOpen.{IExpr-F}
-use Rattle.mol_values.specs.declared.iexpr.IExpr.TheVariants as exprs
-use Rattle.mol_values.specs.declared.itype.IType.TheVariants as itypes
+use Rattle.mol_table_rules.specs.Program.{Program, package_at, name_at}
+use Rattle.mol_values_types.specs.declared.iexpr.IExpr.{IExpr}
+use Rattle.mol_values_types.specs.declared.iexpr.IExpr.TheFolds.{fold-roll-IExpr}
+use Rattle.mol_values_types.specs.declared.iexpr.IExpr.TheOpen.{IExpr-F}
+use Rattle.mol_values_types.specs.declared.iexpr.IExpr.TheVariants as exprs
+use Rattle.mol_values_types.specs.declared.itype.IType.TheVariants as itypes
 use Rattle.std.specs.Option.{option_and_then}
 use Rattle.jav_tree.specs.declared.expr.Expr.{Expr}
 use Rattle.jav_tree.specs.declared.expr.ExprNode.TheVariants as node
@@ -104,16 +104,16 @@ module _ (program : Program) where
       is = simp (no_class, class_near) refl
 
     x-written : (reader : Reader Id Id)
-        → (spelled_type (in_file reader) hides_none no_locals (λ text. type_asked text) (itypes.Imported (codes "a") [])).tree
+        → (spelled_type (in_file reader) hides_none no_locals (itypes.Imported (codes "a") [])).tree
         ≡ types.Named (codes "a")
     x-written reader = ap (λ part. part.tree)
-        (type-Imported (in_file reader) hides_none no_locals (λ text. type_asked text) (codes "a") []) ∙ simp (no_class) refl
+        (type-Imported (in_file reader) hides_none no_locals (codes "a") []) ∙ simp (no_class) refl
 
     y-written : (reader : Reader Id Id)
-        → (spelled_type (in_file reader) hides_none no_locals (λ text. type_asked text) (itypes.Imported (codes "a.b") (codes "C"))).tree
+        → (spelled_type (in_file reader) hides_none no_locals (itypes.Imported (codes "a.b") (codes "C"))).tree
         ≡ types.Named (codes "a.b.C")
     y-written reader = ap (λ part. part.tree)
-        (type-Imported (in_file reader) hides_none no_locals (λ text. type_asked text) (codes "a.b") (codes "C")) ∙ simp (class_near) refl
+        (type-Imported (in_file reader) hides_none no_locals (codes "a.b") (codes "C")) ∙ simp (class_near) refl
 
 -- so written, the second type reads as what it is
 abbrev with_b : View Id Id

@@ -3,20 +3,20 @@ use Rattle.std.proofs.Common.{true≢false, ◌≡◌, ◌≢◌, inl, true, fal
 use Rattle.std.specs.FinMap.{find, get, len}
 use Rattle.mol_base.specs.Order.{id_cmp}
 use Rattle.mol_base.specs.declared.ident.Id.{Id}
-use Rattle.mol_table.specs.Ancestors.{is_on_way}
-use Rattle.mol_table.specs.Program.{same_id, Program, value_at, cell, class_step, class_of_type}
-use Rattle.mol_values.specs.Order.{cell_cmp}
-use Rattle.mol_values.specs.declared.cell.Cell.{Cell}
-use Rattle.mol_values.specs.declared.cell.Slot.{Slot}
-use Rattle.mol_values.specs.declared.cell.Slot.TheVariants as slots
-use Rattle.mol_values.specs.declared.itype.IType.TheFolds.{fold-roll-IType}
-use Rattle.mol_values.specs.declared.itype.IType.TheOpen.{IType-F}
-use Rattle.mol_values.specs.declared.itype.IType.TheVariants as types
-use Rattle.mol_values.specs.declared.kind.MethodKind.TheVariants.{Instance}
-use Rattle.mol_values.specs.declared.known.Known.{Known}
-use Rattle.mol_values.specs.declared.known.Known.TheVariants as knowns
-use Rattle.mol_values.specs.declared.value.Value.{Value}
-use Rattle.mol_values.specs.declared.value.Value.TheVariants as values
+use Rattle.mol_table_rules.specs.Ancestors.{is_on_way}
+use Rattle.mol_table_rules.specs.Program.{same_id, Program, value_at, cell, class_step, class_of_type}
+use Rattle.mol_values_types.specs.Order.{cell_cmp}
+use Rattle.mol_values_types.specs.declared.cell.Cell.{Cell}
+use Rattle.mol_values_types.specs.declared.cell.Slot.{Slot}
+use Rattle.mol_values_types.specs.declared.cell.Slot.TheVariants as slots
+use Rattle.mol_values_types.specs.declared.itype.IType.TheFolds.{fold-roll-IType}
+use Rattle.mol_values_types.specs.declared.itype.IType.TheOpen.{IType-F}
+use Rattle.mol_values_types.specs.declared.itype.IType.TheVariants as types
+use Rattle.mol_values_types.specs.declared.kind.MethodKind.TheVariants.{Instance}
+use Rattle.mol_values_types.specs.declared.known.Known.{Known}
+use Rattle.mol_values_types.specs.declared.known.Known.TheVariants as knowns
+use Rattle.mol_values_types.specs.declared.value.Value.{Value}
+use Rattle.mol_values_types.specs.declared.value.Value.TheVariants as values
 use Rattle.mol_spell_rules.specs.FaultList.{IsFault, by_override, false_override}
 use Rattle.mol_spell_rules.specs.NameFaults.{FalseOverride}
 use Rattle.mol_spell_rules.proofs.ExamplePrograms.{base, ann, bob, is-instance, program_of, holds-in, known-in, len-in}

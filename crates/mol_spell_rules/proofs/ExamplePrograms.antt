@@ -4,13 +4,13 @@ use Rattle.std.specs.Prelude.{T, length}
 use Rattle.std.specs.FinMap.{find, from_sorted, is_sorted, get, get-from_sorted, entries-from_sorted, len, len-entries}
 use Rattle.mol_base.specs.Order.{id_cmp}
 use Rattle.mol_base.specs.declared.ident.Id.{Id}
-use Rattle.mol_table.specs.Program.{Program, value_at, cell}
-use Rattle.mol_values.specs.Order.{cell_cmp}
-use Rattle.mol_values.specs.declared.cell.Cell.{Cell}
-use Rattle.mol_values.specs.declared.cell.Slot.{Slot}
-use Rattle.mol_values.specs.declared.kind.MethodKind.TheVariants.{Instance, Constructor}
-use Rattle.mol_values.specs.declared.known.Known.{Known}
-use Rattle.mol_values.specs.declared.value.Value.{Value}
+use Rattle.mol_table_rules.specs.Program.{Program, value_at, cell}
+use Rattle.mol_values_types.specs.Order.{cell_cmp}
+use Rattle.mol_values_types.specs.declared.cell.Cell.{Cell}
+use Rattle.mol_values_types.specs.declared.cell.Slot.{Slot}
+use Rattle.mol_values_types.specs.declared.kind.MethodKind.TheVariants.{Instance, Constructor}
+use Rattle.mol_values_types.specs.declared.known.Known.{Known}
+use Rattle.mol_values_types.specs.declared.value.Value.{Value}
 
 abbrev pub base : ℕ → Id
 base number = record { tag = []; num = number }

@@ -5,11 +5,11 @@ use Prim.Native.String.{String}
 use Rattle.mol_base.specs.Order.{id_cmp}
 use Rattle.mol_base.specs.declared.ident.Id.{Id}
 use Rattle.mol_spell_rules.specs.references.References.{class_target, field_target, method_target, local_target, outside_target}
-use Rattle.mol_table.specs.Program.{Program, same_id, package_at, name_at}
-use Rattle.mol_values.specs.declared.iexpr.IExpr.{IExpr}
-use Rattle.mol_values.specs.declared.iexpr.IExpr.TheOpen.{IExpr-F}
-use Rattle.mol_values.specs.declared.iexpr.IExpr.TheVariants as exprs
-use Rattle.mol_values.specs.declared.itype.IType.TheVariants as itypes
+use Rattle.mol_table_rules.specs.Program.{Program, same_id, package_at, name_at}
+use Rattle.mol_values_types.specs.declared.iexpr.IExpr.{IExpr}
+use Rattle.mol_values_types.specs.declared.iexpr.IExpr.TheOpen.{IExpr-F}
+use Rattle.mol_values_types.specs.declared.iexpr.IExpr.TheVariants as exprs
+use Rattle.mol_values_types.specs.declared.itype.IType.TheVariants as itypes
 use Rattle.jav_tree.specs.declared.expr.ExprNode.TheVariants as node
 use Rattle.jav_tree.specs.declared.types.TypeName.TheVariants as types
 use Rattle.jav_names.specs.OnValues.{class_value, outside_value}
@@ -21,7 +21,7 @@ use Rattle.mol_spell_rules.proofs.SpelledEquations.{of_parts, argument-is, spell
 use Rattle.mol_spell_rules.specs.Answers.{answer}
 use Rattle.mol_spell_rules.specs.SpelledExpressions.{made, name_tree, dot_tree, spelled_expr, reference, plain}
 use Rattle.mol_spell_rules.specs.SpelledTypes.{spelled_type}
-use Rattle.mol_spell_rules.specs.Writers.{program_class, Writer, hides_none, importable_use, written_use, type_asked, name_asked, name_before_asked, static_method_asked, field_asked, method_asked}
+use Rattle.mol_spell_rules.specs.Writers.{program_class, Writer, hides_none, importable_use, written_use, name_asked, name_before_asked, static_method_asked, field_asked, method_asked}
 
 -- ---- the shop
 
@@ -166,9 +166,9 @@ module _ (program : Program) where
     creation-written = ap (λ part. part.tree) (spelled-NewDefault (writer in_total) with_desk (base 2))
         ∙ simp (desk_named, desk_packed) refl
 
-    declaration-written : (spelled_type (writer in_total) hides_none with_desk (λ text. type_asked text) (itypes.Class (base 2))).tree
+    declaration-written : (spelled_type (writer in_total) hides_none with_desk (itypes.Class (base 2))).tree
         ≡ types.Named (codes "Desk")
-    declaration-written = ap (λ part. part.tree) (type-Class (writer in_total) hides_none with_desk (λ text. type_asked text) (base 2))
+    declaration-written = ap (λ part. part.tree) (type-Class (writer in_total) hides_none with_desk (base 2))
         ∙ simp (desk_named) refl
 
   -- in full it is the method

@@ -4,13 +4,13 @@ use Rattle.std.specs.Prelude.{T}
 use Rattle.std.proofs.lemmas.List.{append_assoc}
 use Rattle.mol_base.specs.declared.ident.Id.{Id}
 use Rattle.mol_spell_rules.specs.references.References as reference
-use Rattle.mol_spell_rules.specs.references.References.{Target, field_target, method_target, References, type_references, expr_references, argument_references}
-use Rattle.mol_values.specs.declared.iexpr.Argument.{Argument, fold-Argument}
-use Rattle.mol_values.specs.declared.iexpr.IExpr.{IExpr}
-use Rattle.mol_values.specs.declared.iexpr.IExpr.TheOpen.{IExpr-F, Argument-F}
-use Rattle.mol_values.specs.declared.iexpr.IExpr.TheFolds.{fold-roll-IExpr, fold-roll-Argument, ind-IExpr, map-IExpr}
-use Rattle.mol_values.specs.declared.iexpr.IExpr.TheViews.{roll-IExpr, roll-Argument}
-use Rattle.mol_values.specs.declared.itype.IType.{IType}
+use Rattle.mol_spell_rules.specs.references.References.{field_target, method_target, References, type_references, expr_references, argument_references}
+use Rattle.mol_values_types.specs.declared.iexpr.Argument.{Argument, fold-Argument}
+use Rattle.mol_values_types.specs.declared.iexpr.IExpr.{IExpr}
+use Rattle.mol_values_types.specs.declared.iexpr.IExpr.TheOpen.{IExpr-F, Argument-F}
+use Rattle.mol_values_types.specs.declared.iexpr.IExpr.TheFolds.{fold-roll-IExpr, fold-roll-Argument, ind-IExpr, map-IExpr}
+use Rattle.mol_values_types.specs.declared.iexpr.IExpr.TheViews.{roll-IExpr, roll-Argument}
+use Rattle.mol_values_types.specs.declared.itype.IType.{IType}
 use Rattle.jav_names.specs.OnValues.{StaticType}
 use Rattle.jav_names.specs.StaticTypes.{of_type, common, item, outside_field, outside_call}
 use Rattle.jav_names.specs.Views.{ViewType}
@@ -21,7 +21,7 @@ use Rattle.mol_resolve_rules.specs.StaticTypes as static
 use Rattle.mol_resolve_rules.specs.StaticTypes.{static_type_of, class_of_only_declaration}
 use Rattle.mol_spell_rules.proofs.TypeTargets.{targets, both, type-targets}
 use Rattle.mol_spell_rules.specs.SpelledExpressions.{SpelledExpr, MemberForm, by_name, on_this, on_class, hides, type_here, own_form, static_form, call_form, static_call_form, field_reference, call_reference, constructor_reference, after, each_alone, name_of, references_step, expr_step, argument_step, spelled_expr}
-use Rattle.mol_spell_rules.specs.Writers.{Writer, type_asked, constructor_asked, field_asked, method_asked, Reference}
+use Rattle.mol_spell_rules.specs.Writers.{Writer, field_asked, method_asked, Reference}
 
 module _ (writer : Writer) (locals : Locals Id) where
   -- ---- single references
@@ -44,7 +44,7 @@ module _ (writer : Writer) (locals : Locals Id) where
   constructor-target (Some class) constructor arity = refl
 
   type-here : (type : IType) → targets (type_here writer locals type).references ≡ type_references type
-  type-here type = type-targets writer (hides writer locals) locals (λ text. type_asked text) type
+  type-here type = type-targets writer (hides writer locals) locals type
 
   -- ---- what is alike
 
@@ -220,12 +220,8 @@ module _ (writer : Writer) (locals : Locals Id) where
       (λ i. outside_call (e.1.0 i) name (as_many args i), λ mode. behind _ _ _ _ _ (e.1.1 (Some [])) (each args), λ h. absurd h)
   layer (IExpr-F.OutsideSuperCall name args) = from (IExpr-F.OutsideSuperCall name (exprs_in args))
       (refl, λ mode. ap (λ rest. reference.outside_target name ∷ rest) (each args), λ h. absurd h)
-  layer (IExpr-F.NewOutside type args) = from (IExpr-F.NewOutside type (exprs_in args)) (
-    refl,
-    λ mode. both _ _ _ _ (type-targets writer (hides writer locals) locals
-        (λ text. constructor_asked text (length (map spelled (exprs_in args)))) type) (each args),
-    λ h. absurd h,
-  )
+  layer (IExpr-F.NewOutside type args) = from (IExpr-F.NewOutside type (exprs_in args))
+      (refl, λ mode. both _ _ _ _ (type-here type) (each args), λ h. absurd h)
   layer (IExpr-F.NewArray type sizes pairs) = from (IExpr-F.NewArray type (exprs_in sizes) pairs) (
     ap (λ n. of_type (arrays (n + pairs) (seen type))) (as_many sizes),
     λ mode. both _ _ _ _ (type-here type) (each sizes),

@@ -7,12 +7,12 @@ use Rattle.jav_names.proofs.Lists.{stands_first, stands_nowhere}
 use Rattle.jav_names.specs.Views.{IsKeyOrder}
 use Rattle.mol_base.specs.Order.{id_cmp-IsAntisymmetric}
 use Rattle.mol_base.specs.declared.ident.Id.{Id}
-use Rattle.mol_table.specs.Program.{Program}
-use Rattle.mol_table.proofs.CellOrder.{every_slot, slot_at}
-use Rattle.mol_values.specs.Order.{slot_number}
-use Rattle.mol_values.specs.declared.cell.Cell.{Cell}
-use Rattle.mol_values.specs.declared.cell.Slot.{Slot}
-use Rattle.mol_values.specs.declared.cell.Slot.TheVariants as slots
+use Rattle.mol_table_rules.specs.Program.{Program}
+use Rattle.mol_table_rules.proofs.CellOrder.{every_slot, slot_at}
+use Rattle.mol_values_types.specs.Order.{slot_number}
+use Rattle.mol_values_types.specs.declared.cell.Cell.{Cell}
+use Rattle.mol_values_types.specs.declared.cell.Slot.{Slot}
+use Rattle.mol_values_types.specs.declared.cell.Slot.TheVariants as slots
 use Rattle.mol_spell_rules.proofs.FilesOrdered.{then_both}
 use Rattle.mol_spell_rules.proofs.SetItems.{same-members}
 use Rattle.mol_spell_rules.specs.Clean.{Clean}

@@ -17,9 +17,9 @@ use Rattle.mol_spell_rules.proofs.SetItems.{set-ascends, set-has, key-stands}
 use Rattle.mol_spell_rules.specs.Laws.{key_of, IsSpelled, FilesInOrder}
 use Rattle.mol_spell_rules.specs.Sets.{as_set}
 use Rattle.mol_spell_rules.specs.SpelledUnits.{UnitKey, unit_key_cmp, SpelledUnit, spelled_unit, key_at, living_classes, units_of}
-use Rattle.mol_table.specs.Program.{Program, living_at}
-use Rattle.mol_table.specs.Renumber.{is_class, is_living_class}
-use Rattle.mol_values.specs.declared.known.Known.{Known}
+use Rattle.mol_table_rules.specs.Program.{Program, living_at}
+use Rattle.mol_table_rules.specs.Renumber.{is_class, is_living_class}
+use Rattle.mol_values_types.specs.declared.known.Known.{Known}
 
 -- ---- the order of keys
 

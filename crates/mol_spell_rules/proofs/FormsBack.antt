@@ -15,9 +15,9 @@ use Rattle.mol_resolve_rules.specs.Readers.{Reader}
 use Rattle.mol_resolve_rules.specs.ReadTrees.{Mode, before, Reading, with_params, reading}
 use Rattle.mol_resolve_rules.specs.Says.{no_more, NamesField, NamesMethod, call_on_this, SaysArguments}
 use Rattle.mol_resolve_rules.specs.StaticTypes.{field_value, result_value}
-use Rattle.mol_values.specs.declared.iexpr.Argument.{Argument}
-use Rattle.mol_values.specs.declared.iexpr.IExpr.{IExpr}
-use Rattle.mol_values.specs.declared.iexpr.IExpr.TheOpen.{IExpr-F}
+use Rattle.mol_values_types.specs.declared.iexpr.Argument.{Argument}
+use Rattle.mol_values_types.specs.declared.iexpr.IExpr.{IExpr}
+use Rattle.mol_values_types.specs.declared.iexpr.IExpr.TheOpen.{IExpr-F}
 use Rattle.mol_spell_rules.proofs.CallsBack.{ids_of, here-back, outside-here-back, on-back, outside-on-back, this-back, class-back}
 use Rattle.mol_spell_rules.proofs.NamesBack.{never-this, value_of, IsBack, name-back, class-alone-back, class-before-back}
 use Rattle.mol_spell_rules.proofs.ValuesBack.{IsApart, nameless-apart, name-apart, dot-apart, dot-reads, value-field-back, outside-field-back, this-field-back, class-field-back}
@@ -27,7 +27,7 @@ use Rattle.mol_spell_rules.specs.SpelledExpressions.{SpelledExpr, MemberForm, by
 use Rattle.mol_spell_rules.specs.Writers.{Writer, field_asked, method_asked, call_asked}
 use Rattle.jav_tree.specs.declared.expr.ExprNode.TheVariants as node
 use Rattle.mol_resolve_rules.specs.Says as say
-use Rattle.mol_values.specs.declared.iexpr.IExpr.TheVariants as exprs
+use Rattle.mol_values_types.specs.declared.iexpr.IExpr.TheVariants as exprs
 use Rattle.mol_spell_rules.specs.SpelledExpressions as spell
 use Rattle.mol_spell_rules.proofs.PartsBack as carried
 

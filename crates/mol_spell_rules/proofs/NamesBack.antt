@@ -24,10 +24,10 @@ use Rattle.mol_resolve_rules.specs.Readers.{Parameter, Reader, place_of}
 use Rattle.mol_resolve_rules.specs.ReadTrees.{Meant, Mode, Reading, local_meant, param_meant, field_word, variable_meant, name_alone, name_before, reading}
 use Rattle.mol_resolve_rules.specs.Says.{OutsideText, in_full, of_import, no_more, expr_text, expr_text_step, argument_text_step, NamesField, as_own, as_static, Says, equal_expr, one_field, text_of_expr}
 use Rattle.mol_resolve_rules.specs.StaticTypes.{field_value, param_value}
-use Rattle.mol_values.specs.declared.iexpr.IExpr.{IExpr}
-use Rattle.mol_values.specs.declared.iexpr.IExpr.TheFolds.{fold-roll-IExpr}
-use Rattle.mol_values.specs.declared.iexpr.IExpr.TheOpen.{IExpr-F}
-use Rattle.mol_values.specs.declared.iexpr.IExpr.TheVariants as exprs
+use Rattle.mol_values_types.specs.declared.iexpr.IExpr.{IExpr}
+use Rattle.mol_values_types.specs.declared.iexpr.IExpr.TheFolds.{fold-roll-IExpr}
+use Rattle.mol_values_types.specs.declared.iexpr.IExpr.TheOpen.{IExpr-F}
+use Rattle.mol_values_types.specs.declared.iexpr.IExpr.TheVariants as exprs
 use Rattle.mol_spell_rules.specs.Answers.{answer, field_of, variable_answer, name_answer, before_answer, path_answer}
 use Rattle.mol_spell_rules.specs.ReadBack.{SeesProgram}
 use Rattle.mol_spell_rules.specs.SpelledExpressions.{name_tree, asks_name}

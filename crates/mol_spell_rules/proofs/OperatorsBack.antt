@@ -14,9 +14,9 @@ use Rattle.mol_resolve_rules.specs.Readers.{Reader}
 use Rattle.mol_resolve_rules.specs.ReadTrees.{Meant, Mode, Reading, with_params, values_of, reading, meant, unary_type, binary_type, choice, index_meant, super_call, arguments_of}
 use Rattle.mol_resolve_rules.specs.Says.{Says, SaysAll, SaysArguments}
 use Rattle.mol_resolve_rules.specs.StaticTypes.{result_value}
-use Rattle.mol_values.specs.declared.iexpr.Argument.{Argument}
-use Rattle.mol_values.specs.declared.iexpr.IExpr.{IExpr}
-use Rattle.mol_values.specs.declared.iexpr.IExpr.TheOpen.{IExpr-F}
+use Rattle.mol_values_types.specs.declared.iexpr.Argument.{Argument}
+use Rattle.mol_values_types.specs.declared.iexpr.IExpr.{IExpr}
+use Rattle.mol_values_types.specs.declared.iexpr.IExpr.TheOpen.{IExpr-F}
 use Rattle.mol_spell_rules.proofs.CallsBack.{ids_of, result-is, args-are}
 use Rattle.mol_spell_rules.proofs.NamesBack.{never-this, value_of, IsBack, answered-by, view-ordered}
 use Rattle.mol_spell_rules.proofs.ValuesBack.{IsApart, nameless-apart}
@@ -33,7 +33,7 @@ use Rattle.mol_resolve_rules.specs.FaultKinds.{static_by_instance}
 use Rattle.mol_spell_rules.proofs.FormsBack.{as_many}
 use Rattle.jav_tree.specs.declared.expr.ExprNode.TheVariants as node
 use Rattle.mol_resolve_rules.specs.Says as say
-use Rattle.mol_values.specs.declared.iexpr.IExpr.TheVariants as exprs
+use Rattle.mol_values_types.specs.declared.iexpr.IExpr.TheVariants as exprs
 use Rattle.mol_spell_rules.proofs.PartsBack as carried
 
 module _ (writer : Writer) (sees : SeesProgram writer) (locals : Locals Id) where

@@ -7,23 +7,23 @@ use Rattle.std.specs.Option.{option_map_or, option_and_then}
 use Rattle.mol_base.specs.Limits.{max_items}
 use Rattle.mol_base.specs.Order.{id_cmp-total, id_cmp-IsAntisymmetric}
 use Rattle.mol_base.specs.declared.ident.Id.{Id}
-use Rattle.mol_table.proofs.Counts.{each_found}
-use Rattle.mol_table.proofs.Living.{same_id-own, id_tied}
-use Rattle.mol_table.specs.Forms.{differ, is_param, are_params, is_formed, has_form}
-use Rattle.mol_table.specs.Mentions.{Mention, a_method, a_listed_param, type_mentions, param_mentions}
-use Rattle.mol_table.specs.Program.{Program, same_id, value_at, living_at, owner_at, params_in, params_at, method_in as its_method}
-use Rattle.mol_table.specs.Rules.{IsProgram, fills, refers_rightly}
-use Rattle.mol_values.specs.Slots.{has_slot}
-use Rattle.mol_values.specs.declared.cell.Cell.{Cell}
-use Rattle.mol_values.specs.declared.cell.Slot.{Slot}
-use Rattle.mol_values.specs.declared.cell.Slot.TheVariants as slots
-use Rattle.mol_values.specs.declared.kind.MethodKind.{MethodKind}
-use Rattle.mol_values.specs.declared.kind.MethodKind.TheVariants.{Instance, Static, Constructor}
-use Rattle.mol_values.specs.declared.known.Known.{Known}
-use Rattle.mol_values.specs.declared.known.Known.TheVariants as knowns
-use Rattle.mol_values.specs.declared.param.Param.{Param}
-use Rattle.mol_values.specs.declared.value.Value.{Value}
-use Rattle.mol_values.specs.declared.value.Value.TheVariants as values
+use Rattle.mol_table_rules.proofs.Counts.{each_found}
+use Rattle.mol_table_rules.proofs.Living.{same_id-own, id_tied}
+use Rattle.mol_table_rules.specs.Forms.{differ, is_param, are_params, is_formed, has_form}
+use Rattle.mol_table_rules.specs.Mentions.{Mention, a_method, a_listed_param, type_mentions, param_mentions}
+use Rattle.mol_table_rules.specs.Program.{Program, same_id, value_at, living_at, owner_at, params_in, params_at, method_in as its_method}
+use Rattle.mol_table_rules.specs.Rules.{IsProgram, fills, refers_rightly}
+use Rattle.mol_values_types.specs.Slots.{has_slot}
+use Rattle.mol_values_types.specs.declared.cell.Cell.{Cell}
+use Rattle.mol_values_types.specs.declared.cell.Slot.{Slot}
+use Rattle.mol_values_types.specs.declared.cell.Slot.TheVariants as slots
+use Rattle.mol_values_types.specs.declared.kind.MethodKind.{MethodKind}
+use Rattle.mol_values_types.specs.declared.kind.MethodKind.TheVariants.{Instance, Static, Constructor}
+use Rattle.mol_values_types.specs.declared.known.Known.{Known}
+use Rattle.mol_values_types.specs.declared.known.Known.TheVariants as knowns
+use Rattle.mol_values_types.specs.declared.param.Param.{Param}
+use Rattle.mol_values_types.specs.declared.value.Value.{Value}
+use Rattle.mol_values_types.specs.declared.value.Value.TheVariants as values
 use Rattle.jav_names.proofs.Lists.{stands_first, stands_later, stands_where, stands_nowhere, stands-mapped}
 use Rattle.jav_names.specs.DottedNames.{Names}
 use Rattle.jav_names.specs.OnValues.{StaticType, mixed_value}

@@ -14,19 +14,19 @@ use Rattle.mol_resolve_rules.specs.Outcomes.{Outcome, fine, mapped, both, put_fi
 use Rattle.mol_resolve_rules.specs.Readers.{Reader}
 use Rattle.mol_resolve_rules.specs.ReadTrees.{Meant, Mode, with_params, values_of, reading}
 use Rattle.mol_resolve_rules.specs.Says.{SaysAll, no_exprs, more_exprs, SaysArguments, no_arguments, more_arguments}
-use Rattle.mol_table.specs.Program.{same_id}
-use Rattle.mol_values.specs.declared.iexpr.Argument.{Argument, fold-Argument}
-use Rattle.mol_values.specs.declared.iexpr.IExpr.{IExpr}
-use Rattle.mol_values.specs.declared.iexpr.IExpr.TheFolds.{fold-roll-IExpr, map-IExpr}
-use Rattle.mol_values.specs.declared.iexpr.IExpr.TheOpen.{IExpr-F}
-use Rattle.mol_values.specs.declared.iexpr.IExpr.TheViews.{roll-IExpr}
+use Rattle.mol_table_rules.specs.Program.{same_id}
+use Rattle.mol_values_types.specs.declared.iexpr.Argument.{Argument, fold-Argument}
+use Rattle.mol_values_types.specs.declared.iexpr.IExpr.{IExpr}
+use Rattle.mol_values_types.specs.declared.iexpr.IExpr.TheFolds.{fold-roll-IExpr, map-IExpr}
+use Rattle.mol_values_types.specs.declared.iexpr.IExpr.TheOpen.{IExpr-F}
+use Rattle.mol_values_types.specs.declared.iexpr.IExpr.TheViews.{roll-IExpr}
 use Rattle.mol_spell_rules.proofs.CallsBack.{ids_of}
 use Rattle.mol_spell_rules.proofs.NamesBack.{IsBack}
 use Rattle.mol_spell_rules.proofs.ValuesBack.{IsApart}
 use Rattle.mol_spell_rules.specs.ReadBack.{SeesProgram, KeptArgument, same_ids, are_kept, kept_step, kept_argument_step, is_kept, AreAnswered}
 use Rattle.mol_spell_rules.specs.SpelledExpressions.{SpelledExpr, each_alone, expr_step, argument_step, spelled_expr}
 use Rattle.mol_spell_rules.specs.Writers.{Writer, Reference}
-use Rattle.mol_values.specs.declared.iexpr.IExpr.TheVariants as exprs
+use Rattle.mol_values_types.specs.declared.iexpr.IExpr.TheVariants as exprs
 
 -- ---- tests
 

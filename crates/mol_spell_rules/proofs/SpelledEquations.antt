@@ -3,20 +3,20 @@ use Rattle.std.proofs.Common.{◌≡◌, ℕ, List, map, ap, sym, ◌∙◌}
 use Rattle.mol_base.specs.declared.ident.Id.{Id}
 use Rattle.jav_names.specs.DottedNames.{Name}
 use Rattle.mol_resolve_rules.specs.Locals.{Locals}
-use Rattle.mol_values.specs.declared.iexpr.Argument.{Argument, fold-Argument}
-use Rattle.mol_values.specs.declared.iexpr.IExpr.{IExpr}
-use Rattle.mol_values.specs.declared.iexpr.IExpr.TheFolds.{fold-roll-IExpr, fold-roll-Argument, map-IExpr}
-use Rattle.mol_values.specs.declared.iexpr.IExpr.TheOpen.{IExpr-F}
-use Rattle.mol_values.specs.declared.iexpr.IExpr.TheVariants as exprs
-use Rattle.mol_values.specs.declared.iexpr.IExpr.TheViews.{roll-IExpr}
-use Rattle.mol_values.specs.declared.itype.IType.{IType}
-use Rattle.mol_values.specs.declared.itype.IType.TheFolds.{fold-roll-IType}
-use Rattle.mol_values.specs.declared.itype.IType.TheOpen.{IType-F}
-use Rattle.mol_values.specs.declared.itype.IType.TheVariants as types
+use Rattle.mol_values_types.specs.declared.iexpr.Argument.{Argument, fold-Argument}
+use Rattle.mol_values_types.specs.declared.iexpr.IExpr.{IExpr}
+use Rattle.mol_values_types.specs.declared.iexpr.IExpr.TheFolds.{fold-roll-IExpr, fold-roll-Argument, map-IExpr}
+use Rattle.mol_values_types.specs.declared.iexpr.IExpr.TheOpen.{IExpr-F}
+use Rattle.mol_values_types.specs.declared.iexpr.IExpr.TheVariants as exprs
+use Rattle.mol_values_types.specs.declared.iexpr.IExpr.TheViews.{roll-IExpr}
+use Rattle.mol_values_types.specs.declared.itype.IType.{IType}
+use Rattle.mol_values_types.specs.declared.itype.IType.TheFolds.{fold-roll-IType}
+use Rattle.mol_values_types.specs.declared.itype.IType.TheOpen.{IType-F}
+use Rattle.mol_values_types.specs.declared.itype.IType.TheVariants as types
 use Rattle.std.specs.Prelude.{Bool}
 use Rattle.mol_spell_rules.specs.SpelledExpressions.{SpelledExpr, expr_step, argument_step, spelled_expr}
 use Rattle.mol_spell_rules.specs.SpelledTypes.{SpelledType, type_step, spelled_type}
-use Rattle.mol_spell_rules.specs.Writers.{Writer, Asked}
+use Rattle.mol_spell_rules.specs.Writers.{Writer}
 
 module _ (writer : Writer) (locals : Locals Id) where
   abbrev spelled : IExpr → SpelledExpr
@@ -119,12 +119,12 @@ module _ (writer : Writer) (locals : Locals Id) where
   spelled-Cast type e part is = ap spelled (sym (exprs.rolls-Cast type e)) ∙ rolled (IExpr-F.Cast type e)
       ∙ ap (λ part. of_parts (IExpr-F.Cast type part)) is
 
-module _ (writer : Writer) (hides : Name → Bool) (locals : Locals Id) (asks : Name → Asked) where
+module _ (writer : Writer) (hides : Name → Bool) (locals : Locals Id) where
   abbrev spelled_as : IType → SpelledType
-  spelled_as = spelled_type writer hides locals asks
+  spelled_as = spelled_type writer hides locals
 
   abbrev pub type_of_parts : IType-F SpelledType → SpelledType
-  type_of_parts = type_step writer hides locals asks
+  type_of_parts = type_step writer hides locals
 
   pub type-Int : spelled_as types.Int ≡ type_of_parts IType-F.Int
   type-Int = ap spelled_as (sym types.rolls-Int) ∙ fold-roll-IType SpelledType type_of_parts IType-F.Int

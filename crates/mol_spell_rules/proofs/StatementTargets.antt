@@ -9,34 +9,34 @@ use Rattle.jav_tree.specs.declared.stmt.Stmt.{Stmt}
 use Rattle.jav_tree.specs.declared.stmt.StmtNode.{StmtNode}
 use Rattle.jav_names.specs.Views.{ViewType}
 use Rattle.mol_spell_rules.specs.references.References as reference
-use Rattle.mol_spell_rules.specs.references.References.{method_target, default_target, outside_target, References, type_references, expr_references, exprs_references, maybe_references, arguments_references, let_references, start_references, else_references, node_references, block_references, if_references, statement_references, references}
+use Rattle.mol_spell_rules.specs.references.References.{method_target, outside_target, References, type_references, expr_references, exprs_references, maybe_references, arguments_references, let_references, start_references, else_references, node_references, block_references, if_references, statement_references, references}
 use Rattle.mol_resolve_rules.specs.Locals.{Locals, no_locals}
 use Rattle.mol_resolve_rules.specs.ProgramViews.{seen}
-use Rattle.mol_values.specs.declared.iblock.IBlock.{IBlock}
-use Rattle.mol_values.specs.declared.iblock.IDeclarator.{IDeclarator}
-use Rattle.mol_values.specs.declared.iblock.IElse.{IElse, fold-IElse}
-use Rattle.mol_values.specs.declared.iblock.IElse.TheFolds.{fold-roll-IElse, fold-roll-IStmtNode, fold-roll-IBlock, fold-roll-IIf, fold-roll-IStmt, map-IElse, map-IStmtNode, ind-IBlock}
-use Rattle.mol_values.specs.declared.iblock.IElse.TheOpen.{IElse-F, IStmtNode-F, IBlock-F, IIf-F, IStmt-F}
-use Rattle.mol_values.specs.declared.iblock.IElse.TheViews.{roll-IElse, roll-IStmtNode, roll-IBlock, roll-IIf, roll-IStmt}
-use Rattle.mol_values.specs.declared.iblock.IForStart.{IForStart}
-use Rattle.mol_values.specs.declared.iblock.IForStart.TheVariants as starts
-use Rattle.mol_values.specs.declared.iblock.IIf.{IIf, fold-IIf}
-use Rattle.mol_values.specs.declared.iblock.ILet.{ILet}
-use Rattle.mol_values.specs.declared.iblock.IStmt.{IStmt, fold-IStmt}
-use Rattle.mol_values.specs.declared.iblock.IStmtNode.{IStmtNode, fold-IStmtNode}
-use Rattle.mol_values.specs.declared.iexpr.Argument.{Argument}
-use Rattle.mol_values.specs.declared.iexpr.IExpr.{IExpr}
-use Rattle.mol_values.specs.declared.itype.IType.{IType}
-use Rattle.mol_values.specs.declared.param.Param.{Param}
-use Rattle.mol_values.specs.declared.value.Value.{Value}
-use Rattle.mol_values.specs.declared.value.Value.TheVariants as values
+use Rattle.mol_values_types.specs.declared.iblock.IBlock.{IBlock}
+use Rattle.mol_values_types.specs.declared.iblock.IDeclarator.{IDeclarator}
+use Rattle.mol_values_types.specs.declared.iblock.IElse.{IElse, fold-IElse}
+use Rattle.mol_values_types.specs.declared.iblock.IElse.TheFolds.{fold-roll-IElse, fold-roll-IStmtNode, fold-roll-IBlock, fold-roll-IIf, fold-roll-IStmt, map-IElse, map-IStmtNode, ind-IBlock}
+use Rattle.mol_values_types.specs.declared.iblock.IElse.TheOpen.{IElse-F, IStmtNode-F, IBlock-F, IIf-F, IStmt-F}
+use Rattle.mol_values_types.specs.declared.iblock.IElse.TheViews.{roll-IElse, roll-IStmtNode, roll-IBlock, roll-IIf, roll-IStmt}
+use Rattle.mol_values_types.specs.declared.iblock.IForStart.{IForStart}
+use Rattle.mol_values_types.specs.declared.iblock.IForStart.TheVariants as starts
+use Rattle.mol_values_types.specs.declared.iblock.IIf.{IIf, fold-IIf}
+use Rattle.mol_values_types.specs.declared.iblock.ILet.{ILet}
+use Rattle.mol_values_types.specs.declared.iblock.IStmt.{IStmt, fold-IStmt}
+use Rattle.mol_values_types.specs.declared.iblock.IStmtNode.{IStmtNode, fold-IStmtNode}
+use Rattle.mol_values_types.specs.declared.iexpr.Argument.{Argument}
+use Rattle.mol_values_types.specs.declared.iexpr.IExpr.{IExpr}
+use Rattle.mol_values_types.specs.declared.itype.IType.{IType}
+use Rattle.mol_values_types.specs.declared.param.Param.{Param}
+use Rattle.mol_values_types.specs.declared.value.Value.{Value}
+use Rattle.mol_values_types.specs.declared.value.Value.TheVariants as values
 use Rattle.mol_spell_rules.proofs.ExpressionTargets.{expr-targets, expr-type}
 use Rattle.mol_spell_rules.proofs.TypeTargets.{targets, both, type-targets}
 use Rattle.mol_spell_rules.specs.Laws.{TargetsAlike, TypesAlike}
 use Rattle.mol_spell_rules.specs.SpelledExpressions.{each_alone, spelled_expr}
 use Rattle.mol_spell_rules.specs.SpelledStatements.{Spells, each, one_expr, exprs, maybe_expr, declared_type, declaring, declarator, spelled_let, spelled_start, else_step, node_step, block_step, if_step, stmt_step, spelled_block}
 use Rattle.mol_spell_rules.specs.UnitCells.{first_value_references, references_in}
-use Rattle.mol_spell_rules.specs.Writers.{Writer, hides_none, type_asked}
+use Rattle.mol_spell_rules.specs.Writers.{Writer, hides_none}
 
 module _ (writer : Writer) where
   -- whatever the locals before it, a part has these targets
@@ -46,7 +46,7 @@ module _ (writer : Writer) where
   -- ---- expressions and types in statements
 
   type-has : (locals : Locals Id) (type : IType) → targets (declared_type writer locals type).references ≡ type_references type
-  type-has locals type = type-targets writer hides_none locals (λ text. type_asked text) type
+  type-has locals type = type-targets writer hides_none locals type
 
   expr-has : (e : IExpr) → Has (one_expr writer e) (expr_references e)
   expr-has e locals = expr-targets writer locals e None

@@ -3,15 +3,15 @@ use Rattle.std.proofs.Common.{◌≡◌, List, [], ◌∷◌, ◌++◌, map, ref
 use Rattle.mol_base.specs.declared.ident.Id.{Id}
 use Rattle.mol_spell_rules.specs.references.References as reference
 use Rattle.mol_spell_rules.specs.references.References.{References, type_references}
-use Rattle.mol_values.specs.declared.itype.IType.{IType}
-use Rattle.mol_values.specs.declared.itype.IType.TheFolds.{fold-roll-IType, ind-IType, map-IType}
-use Rattle.mol_values.specs.declared.itype.IType.TheOpen.{IType-F}
-use Rattle.mol_values.specs.declared.itype.IType.TheViews.{roll-IType}
+use Rattle.mol_values_types.specs.declared.itype.IType.{IType}
+use Rattle.mol_values_types.specs.declared.itype.IType.TheFolds.{fold-roll-IType, ind-IType, map-IType}
+use Rattle.mol_values_types.specs.declared.itype.IType.TheOpen.{IType-F}
+use Rattle.mol_values_types.specs.declared.itype.IType.TheViews.{roll-IType}
 use Rattle.jav_names.specs.DottedNames.{Name}
 use Rattle.std.specs.Prelude.{Bool}
 use Rattle.mol_resolve_rules.specs.Locals.{Locals}
 use Rattle.mol_spell_rules.specs.SpelledTypes.{SpelledType, spelled_type, type_step}
-use Rattle.mol_spell_rules.specs.Writers.{Writer, Asked, Reference}
+use Rattle.mol_spell_rules.specs.Writers.{Writer, Reference}
 
 abbrev pub targets : List Reference → References
 targets rs = map (λ (r : Reference). r.target) rs
@@ -23,12 +23,12 @@ targets-append (r ∷ rs) ss = ap (λ rest. r.target ∷ rest) (targets-append r
 pub both : (rs ss : List Reference) (r s : References) → targets rs ≡ r → targets ss ≡ s → targets (rs ++ ss) ≡ r ++ s
 both rs ss r s first second = targets-append rs ss ∙ λ i. first i ++ second i
 
-module _ (writer : Writer) (hides : Name → Bool) (locals : Locals Id) (asks : Name → Asked) where
+module _ (writer : Writer) (hides : Name → Bool) (locals : Locals Id) where
   abbrev spelled : IType → SpelledType
-  spelled = spelled_type writer hides locals asks
+  spelled = spelled_type writer hides locals
 
   abbrev step : IType-F SpelledType → SpelledType
-  step = type_step writer hides locals asks
+  step = type_step writer hides locals
 
   abbrev AreAlike : SpelledType → References → Type 0
   AreAlike part refs = targets part.references ≡ refs
@@ -54,5 +54,5 @@ module _ (writer : Writer) (hides : Name → Bool) (locals : Locals Id) (asks : 
   layer (IType-F.Written text) = from (IType-F.Written text) refl
   layer (IType-F.Array item) = from (IType-F.Array item.0) item.1
 
-  pub type-targets : (type : IType) → targets (spelled_type writer hides locals asks type).references ≡ type_references type
+  pub type-targets : (type : IType) → targets (spelled_type writer hides locals type).references ≡ type_references type
   type-targets = ind-IType Alike (λ x y is. subst (λ z. Alike (roll-IType z)) is (layer y))

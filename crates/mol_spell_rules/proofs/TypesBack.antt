@@ -13,9 +13,9 @@ use Rattle.mol_resolve_rules.specs.Outcomes.{Outcome, fine, mapped, both}
 use Rattle.mol_resolve_rules.specs.Readers.{Reader}
 use Rattle.mol_resolve_rules.specs.ReadTrees.{Meant, Mode, Reading, reading, meant, arrays}
 use Rattle.mol_resolve_rules.specs.Says.{no_more, OutsideText, in_full, of_import, type_text, type_text_step, SaysType, equal_type, text_of_type, array_of}
-use Rattle.mol_values.specs.declared.iexpr.Argument.{Argument}
-use Rattle.mol_values.specs.declared.iexpr.IExpr.{IExpr}
-use Rattle.mol_values.specs.declared.iexpr.IExpr.TheOpen.{IExpr-F}
+use Rattle.mol_values_types.specs.declared.iexpr.Argument.{Argument}
+use Rattle.mol_values_types.specs.declared.iexpr.IExpr.{IExpr}
+use Rattle.mol_values_types.specs.declared.iexpr.IExpr.TheOpen.{IExpr-F}
 use Rattle.mol_spell_rules.proofs.NamesBack.{never-this}
 use Rattle.mol_spell_rules.proofs.ValuesBack.{nameless-apart}
 use Rattle.mol_spell_rules.specs.Answers.{type_answer, type_read, answer}
@@ -31,19 +31,19 @@ use Rattle.mol_resolve_rules.specs.ReadTypes.{ReadType, type_tree, type_step, na
 use Rattle.jav_tree.specs.declared.types.TypeName.{TypeName}
 use Rattle.jav_tree.specs.declared.types.TypeName.TheFolds.{fold-roll-TypeName}
 use Rattle.jav_tree.specs.declared.types.TypeName.TheOpen.{TypeName-F}
-use Rattle.mol_values.specs.declared.itype.IType.{IType}
-use Rattle.mol_values.specs.declared.itype.IType.TheFolds.{fold-roll-IType, ind-IType, map-IType}
-use Rattle.mol_values.specs.declared.itype.IType.TheOpen.{IType-F}
-use Rattle.mol_values.specs.declared.itype.IType.TheViews.{roll-IType}
+use Rattle.mol_values_types.specs.declared.itype.IType.{IType}
+use Rattle.mol_values_types.specs.declared.itype.IType.TheFolds.{fold-roll-IType, ind-IType, map-IType}
+use Rattle.mol_values_types.specs.declared.itype.IType.TheOpen.{IType-F}
+use Rattle.mol_values_types.specs.declared.itype.IType.TheViews.{roll-IType}
 use Rattle.mol_spell_rules.proofs.NodeEquations.{read-NewArray, read-ArrayLit, read-Cast, read-InstanceOf}
 use Rattle.mol_spell_rules.specs.SpelledTypes.{SpelledType}
 use Prim.Native.String.{String}
 use Rattle.jav_tree.specs.declared.expr.ExprNode.TheVariants as node
 use Rattle.mol_resolve_rules.specs.Says as say
-use Rattle.mol_values.specs.declared.iexpr.IExpr.TheVariants as exprs
+use Rattle.mol_values_types.specs.declared.iexpr.IExpr.TheVariants as exprs
 use Rattle.jav_names.specs.TypeTexts as text_types
 use Rattle.jav_tree.specs.declared.types.TypeName.TheVariants as types
-use Rattle.mol_values.specs.declared.itype.IType.TheVariants as itypes
+use Rattle.mol_values_types.specs.declared.itype.IType.TheVariants as itypes
 use Rattle.mol_spell_rules.proofs.PartsBack as carried
 use Rattle.mol_spell_rules.specs.SpelledTypes as spell_types
 
@@ -140,7 +140,7 @@ module _ (writer : Writer) (sees : SeesProgram writer) (locals : Locals Id) wher
   TypeBack type = TypeBackAs (spelled_as type) type (seen type) (kept_as type)
 
   abbrev step : IType-F SpelledType → SpelledType
-  step = spell_types.type_step writer (hides writer locals) locals (λ text. type_asked text)
+  step = spell_types.type_step writer (hides writer locals) locals
 
   type-from : (x : IType-F IType) (type : IType) → roll-IType x ≡ type
       → TypeBackAs (step (map-IType _ _ spelled_as x)) type (seen_step (map-IType _ _ seen x))

@@ -22,8 +22,8 @@ use Rattle.mol_resolve_rules.specs.Readers.{Reader, place_of}
 use Rattle.mol_resolve_rules.specs.ReadTrees.{Meant, Mode, followers, before, Reading, ClassPath, whole_path, front_path, no_path, path_by, longer, path_of, name_before, static_field_meant, field_meant, dot_meant, reading}
 use Rattle.mol_resolve_rules.specs.Says.{NamesField, as_own, as_static, Says, one_field, in_field, in_outside_field}
 use Rattle.mol_resolve_rules.specs.StaticTypes.{field_value}
-use Rattle.mol_values.specs.declared.iexpr.IExpr.{IExpr}
-use Rattle.mol_values.specs.declared.iexpr.IExpr.TheVariants as exprs
+use Rattle.mol_values_types.specs.declared.iexpr.IExpr.{IExpr}
+use Rattle.mol_values_types.specs.declared.iexpr.IExpr.TheVariants as exprs
 use Rattle.mol_spell_rules.proofs.NamesBack.{answered-by, view-ordered, never-this, value_of, IsBack}
 use Rattle.mol_spell_rules.specs.Answers.{field_of, field_through_answer, on_value_answer}
 use Rattle.mol_spell_rules.specs.ReadBack.{SeesProgram}

@@ -12,11 +12,11 @@ use Rattle.mol_resolve_rules.specs.Outcomes.{Outcome}
 use Rattle.mol_resolve_rules.specs.Readers.{Reader}
 use Rattle.mol_resolve_rules.specs.ReadTrees.{Mode, Reading, reading}
 use Rattle.mol_resolve_rules.specs.Says.{as_own, as_static, as_own_call, as_static_call, equal_expr}
-use Rattle.mol_values.specs.declared.iexpr.Argument.{Argument}
-use Rattle.mol_values.specs.declared.iexpr.IExpr.{IExpr}
-use Rattle.mol_values.specs.declared.iexpr.IExpr.TheFolds.{fold-roll-Argument, ind-IExpr, map-IExpr}
-use Rattle.mol_values.specs.declared.iexpr.IExpr.TheOpen.{IExpr-F, Argument-F}
-use Rattle.mol_values.specs.declared.iexpr.IExpr.TheViews.{roll-IExpr, roll-Argument}
+use Rattle.mol_values_types.specs.declared.iexpr.Argument.{Argument}
+use Rattle.mol_values_types.specs.declared.iexpr.IExpr.{IExpr}
+use Rattle.mol_values_types.specs.declared.iexpr.IExpr.TheFolds.{fold-roll-Argument, ind-IExpr, map-IExpr}
+use Rattle.mol_values_types.specs.declared.iexpr.IExpr.TheOpen.{IExpr-F, Argument-F}
+use Rattle.mol_values_types.specs.declared.iexpr.IExpr.TheViews.{roll-IExpr, roll-Argument}
 use Rattle.mol_spell_rules.proofs.OwnView.{seen-itself}
 use Rattle.mol_spell_rules.proofs.NamesBack.{never-this, text-of-name, name-back}
 use Rattle.mol_spell_rules.proofs.ValuesBack.{nameless-apart, name-apart}
@@ -27,7 +27,7 @@ use Rattle.mol_spell_rules.proofs.FormsBack.{field-layer, outside-field-layer, c
 use Rattle.mol_spell_rules.proofs.OperatorsBack.{unary-layer, post-layer, binary-layer, assign-layer, cond-layer, braces-layer, index-layer, super-layer, outside-super-layer}
 use Rattle.mol_spell_rules.proofs.TypesBack.{cast-layer, instance-layer, array-layer, new-array-layer}
 use Rattle.jav_tree.specs.declared.expr.ExprNode.TheVariants as node
-use Rattle.mol_values.specs.declared.iexpr.IExpr.TheVariants as exprs
+use Rattle.mol_values_types.specs.declared.iexpr.IExpr.TheVariants as exprs
 use Rattle.mol_spell_rules.proofs.PartsBack as carried
 use Rattle.mol_spell_rules.proofs.FormsBack as forms
 

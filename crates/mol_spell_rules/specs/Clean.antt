@@ -2,9 +2,9 @@
 use Rattle.std.specs.Prelude.{ℕ}
 use Rattle.mol_base.specs.declared.ident.Id.{Id}
 use Rattle.mol_spell_rules.specs.references.References.{Target}
-use Rattle.mol_table.specs.Faults.{SameAddress, Apart, Missing}
-use Rattle.mol_table.specs.Program.{Program}
-use Rattle.mol_values.specs.declared.cell.Cell.{Cell}
+use Rattle.mol_table_rules.specs.Faults.{SameAddress, Apart, Missing}
+use Rattle.mol_table_rules.specs.Program.{Program}
+use Rattle.mol_values_types.specs.declared.cell.Cell.{Cell}
 use Rattle.jav_names.specs.DottedNames.{Name}
 use Rattle.mol_spell_rules.specs.NameFaults.{FalseOverride, OutsideName, Misread, LocalClash, PackageIsClass}
 

@@ -7,10 +7,10 @@ use Rattle.std.specs.declared.cmp.Ordering.{Ordering}
 use Rattle.mol_base.specs.Order.{id_cmp}
 use Rattle.mol_base.specs.declared.ident.Id.{Id}
 use Rattle.mol_spell_rules.specs.references.References.{Target, class_target, field_target, method_target, param_target, default_target, local_target, outside_target}
-use Rattle.mol_table.specs.Faults.{SameAddress, Apart, Missing}
-use Rattle.mol_table.specs.Program.{Program}
-use Rattle.mol_values.specs.Order.{slot_number}
-use Rattle.mol_values.specs.declared.cell.Cell.{Cell}
+use Rattle.mol_table_rules.specs.Faults.{SameAddress, Apart, Missing}
+use Rattle.mol_table_rules.specs.Program.{Program}
+use Rattle.mol_values_types.specs.Order.{slot_number}
+use Rattle.mol_values_types.specs.declared.cell.Cell.{Cell}
 use Rattle.jav_names.specs.DottedNames.{Name}
 use Rattle.mol_spell_rules.specs.NameFaults.{FalseOverride, OutsideName, Misread, LocalClash, PackageIsClass}
 

@@ -7,10 +7,10 @@ use Rattle.mol_base.specs.declared.ident.Id.{Id}
 use Rattle.mol_spell_rules.specs.references.References.{references}
 use Rattle.mol_resolve_rules.specs.Locals.{Local, Locals}
 use Rattle.mol_resolve_rules.specs.StaticTypes.{static_type_of}
-use Rattle.mol_table.specs.Program.{Program}
-use Rattle.mol_table.specs.Renumber.{is_living_class}
-use Rattle.mol_values.specs.declared.iexpr.IExpr.{IExpr}
-use Rattle.mol_values.specs.declared.value.Value.{Value}
+use Rattle.mol_table_rules.specs.Program.{Program}
+use Rattle.mol_table_rules.specs.Renumber.{is_living_class}
+use Rattle.mol_values_types.specs.declared.iexpr.IExpr.{IExpr}
+use Rattle.mol_values_types.specs.declared.value.Value.{Value}
 use Rattle.mol_spell_rules.specs.Clean.{Clean}
 use Rattle.mol_spell_rules.specs.FaultList.{Fault, AreFaults}
 use Rattle.mol_spell_rules.specs.SpelledExpressions.{spelled_expr}

@@ -1,23 +1,23 @@
--- The conditions of the faults of a program that are said of its names. Those of cells alone stand in `mol_table`.
+-- The conditions of the faults of a program that are said of its names. Those of cells alone stand with the definitions of tables.
 use Rattle.std.specs.Prelude.{◌≡◌, ◌≢◌, ◌⊎◌, ℕ, Bool, false, IsTrue, IsFalse, not, map, length, Some, Contains, slice_get}
 use Rattle.std.specs.FinMap.{get}
 use Rattle.std.specs.declared.cmp.Ordering.TheVariants.{Less}
 use Rattle.mol_base.specs.Order.{id_cmp}
 use Rattle.mol_base.specs.declared.ident.Id.{Id}
 use Rattle.mol_spell_rules.specs.references.References.{Target, class_target, field_target, method_target, param_target, default_target, local_target, outside_target}
-use Rattle.mol_table.specs.Ancestors.{is_on_way}
-use Rattle.mol_table.specs.Life.{lives, lives_method}
-use Rattle.mol_table.specs.Program.{Program, value_at, living_at, package_at, name_at, owner_at, params_at, cell}
-use Rattle.mol_table.specs.Renumber.{is_living_class}
-use Rattle.mol_table.specs.Tidy.{tidy}
-use Rattle.mol_values.specs.declared.cell.Cell.{Cell}
-use Rattle.mol_values.specs.declared.cell.Slot.TheVariants as slots
-use Rattle.mol_values.specs.declared.iblock.IBody.{IBody}
-use Rattle.mol_values.specs.declared.kind.MethodKind.{MethodKind}
-use Rattle.mol_values.specs.declared.kind.MethodKind.TheVariants.{Constructor}
-use Rattle.mol_values.specs.declared.known.Known.TheVariants as knowns
-use Rattle.mol_values.specs.declared.param.Param.{Param}
-use Rattle.mol_values.specs.declared.value.Value.TheVariants as values
+use Rattle.mol_table_rules.specs.Ancestors.{is_on_way}
+use Rattle.mol_table_rules.specs.Life.{lives, lives_method}
+use Rattle.mol_table_rules.specs.Program.{Program, value_at, living_at, package_at, name_at, owner_at, params_at, cell}
+use Rattle.mol_table_rules.specs.Renumber.{is_living_class}
+use Rattle.mol_table_rules.specs.Tidy.{tidy}
+use Rattle.mol_values_types.specs.declared.cell.Cell.{Cell}
+use Rattle.mol_values_types.specs.declared.cell.Slot.TheVariants as slots
+use Rattle.mol_values_types.specs.declared.iblock.IBody.{IBody}
+use Rattle.mol_values_types.specs.declared.kind.MethodKind.{MethodKind}
+use Rattle.mol_values_types.specs.declared.kind.MethodKind.TheVariants.{Constructor}
+use Rattle.mol_values_types.specs.declared.known.Known.TheVariants as knowns
+use Rattle.mol_values_types.specs.declared.param.Param.{Param}
+use Rattle.mol_values_types.specs.declared.value.Value.TheVariants as values
 use Rattle.jav_names.specs.DottedNames.{Name, Names}
 use Rattle.jav_names.specs.Members.{is_object_method}
 use Rattle.mol_resolve_rules.specs.Readers.{Reader}

@@ -2,7 +2,7 @@
 use Rattle.std.specs.Prelude.{List, map}
 use Rattle.jav_tree.specs.Layout.{unit_text}
 use Rattle.mol_resolve_rules.specs.ReadAs.{SourceText}
-use Rattle.mol_table.specs.Program.{Program}
+use Rattle.mol_table_rules.specs.Program.{Program}
 use Rattle.mol_spell_rules.specs.SpelledUnits.{SpelledUnit, spelling}
 
 abbrev pub printed_text : SpelledUnit → SourceText

@@ -4,8 +4,8 @@ use Rattle.std.specs.Prelude.{ℕ, [], ◌++◌, Option, Some, None}
 use Rattle.std.specs.Option.{option_and_then}
 use Rattle.mol_base.specs.declared.ident.Id.{Id}
 use Rattle.mol_spell_rules.specs.references.References.{Target, field_target, param_target, local_target, outside_target}
-use Rattle.mol_values.specs.declared.iexpr.IExpr.{IExpr, fold-IExpr}
-use Rattle.mol_values.specs.declared.iexpr.IExpr.TheOpen.{IExpr-F, Argument-F}
+use Rattle.mol_values_types.specs.declared.iexpr.IExpr.{IExpr, fold-IExpr}
+use Rattle.mol_values_types.specs.declared.iexpr.IExpr.TheOpen.{IExpr-F, Argument-F}
 use Rattle.jav_tree.specs.declared.expr.Expr.{Expr}
 use Rattle.jav_names.specs.DottedNames.{Name, Names, Dotted}
 use Rattle.jav_names.specs.Leftmost.{Leftmost, leftmost_variable, leftmost_class, leftmost_import, leftmost_outside}

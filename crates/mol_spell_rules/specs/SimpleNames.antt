@@ -5,8 +5,8 @@ use Rattle.std.specs.Ordering.{nat_cmp}
 use Rattle.std.specs.Cmp.Lexicographic.{slice_cmp}
 use Rattle.std.specs.Str.{bytes_eq}
 use Rattle.mol_base.specs.declared.ident.Id.{Id}
-use Rattle.mol_table.specs.Program.{Program, same_id, package_at, name_at}
-use Rattle.mol_values.specs.declared.cell.Cell.{Cell}
+use Rattle.mol_table_rules.specs.Program.{Program, same_id, package_at, name_at}
+use Rattle.mol_values_types.specs.declared.cell.Cell.{Cell}
 use Rattle.jav_names.specs.DottedNames.{Name, Names, joined, cut}
 use Rattle.jav_names.specs.LookUps.{class_named}
 use Rattle.jav_names.specs.Views.{ViewClass}

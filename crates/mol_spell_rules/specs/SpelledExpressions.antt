@@ -4,12 +4,12 @@ use Rattle.std.specs.List.{flat_map}
 use Rattle.std.specs.Option.{option_map_or}
 use Rattle.mol_base.specs.declared.ident.Id.{Id}
 use Rattle.mol_spell_rules.specs.references.References.{Target, field_target, method_target, param_target, default_target, local_target, outside_target, index_target}
-use Rattle.mol_table.specs.Program.{same_id, name_at, owner_at}
-use Rattle.mol_values.specs.declared.iexpr.IExpr.{IExpr, fold-IExpr}
-use Rattle.mol_values.specs.declared.iexpr.IExpr.TheFolds.{map-IExpr}
-use Rattle.mol_values.specs.declared.iexpr.IExpr.TheOpen.{IExpr-F, Argument-F}
-use Rattle.mol_values.specs.declared.itype.IType.{IType}
-use Rattle.mol_values.specs.declared.param.Param.{Param}
+use Rattle.mol_table_rules.specs.Program.{same_id, name_at, owner_at}
+use Rattle.mol_values_types.specs.declared.iexpr.IExpr.{IExpr, fold-IExpr}
+use Rattle.mol_values_types.specs.declared.iexpr.IExpr.TheFolds.{map-IExpr}
+use Rattle.mol_values_types.specs.declared.iexpr.IExpr.TheOpen.{IExpr-F, Argument-F}
+use Rattle.mol_values_types.specs.declared.itype.IType.{IType}
+use Rattle.mol_values_types.specs.declared.param.Param.{Param}
 use Rattle.jav_tree.specs.Expressions.{expr_at}
 use Rattle.jav_tree.specs.declared.expr.Expr.{Expr}
 use Rattle.jav_tree.specs.declared.expr.ExprNode.{ExprNode}
@@ -26,7 +26,7 @@ use Rattle.mol_resolve_rules.specs.ReadTrees.{Mode, followers, before}
 use Rattle.mol_resolve_rules.specs.StaticTypes as static
 use Rattle.mol_resolve_rules.specs.StaticTypes.{present_param, class_of_only_declaration}
 use Rattle.mol_spell_rules.specs.SpelledTypes.{SpelledType, spelled_type}
-use Rattle.mol_spell_rules.specs.Writers.{Importable, program_class, outside_import, Writer, is_hidden, spelled, text_of, Use, use_of, written_use, Asked, type_asked, name_asked, name_before_asked, path_asked, static_field_asked, static_method_asked, field_asked, method_asked, call_asked, super_method_asked, constructor_asked, index_asked, Reference}
+use Rattle.mol_spell_rules.specs.Writers.{Importable, program_class, outside_import, Writer, is_hidden, spelled, text_of, Use, use_of, written_use, Asked, name_asked, name_before_asked, path_asked, static_field_asked, static_method_asked, field_asked, method_asked, call_asked, super_method_asked, constructor_asked, index_asked, Reference}
 
 -- An expression as it is written, whether it is `this`, its static type, and the references in it: what its first name asks depends on
 -- what stands after it.
@@ -106,11 +106,7 @@ module _ (writer : Writer) (locals : Locals Id) where
   name_of id = name_at writer.program id
 
   abbrev pub type_here : IType → SpelledType
-  type_here type = spelled_type writer hides locals (λ text. type_asked text) type
-
-  -- the type after `new`, before so many arguments
-  abbrev pub created_type : ℕ → IType → SpelledType
-  created_type arity type = spelled_type writer hides locals (λ text. constructor_asked text arity) type
+  type_here type = spelled_type writer hides locals type
 
   -- ---- which form a member has
 
@@ -188,7 +184,7 @@ module _ (writer : Writer) (locals : Locals Id) where
   tree_step (IExpr-F.OutsideCall name args) = made (node.Call None name (trees args))
   tree_step (IExpr-F.OutsideCallOn name e args) = made (node.Call (Some e.tree) name (trees args))
   tree_step (IExpr-F.OutsideSuperCall name args) = made (node.SuperCall name (trees args))
-  tree_step (IExpr-F.NewOutside type args) = made (node.New (created_type (length args) type).tree (trees args))
+  tree_step (IExpr-F.NewOutside type args) = made (node.New (type_here type).tree (trees args))
   tree_step (IExpr-F.NewArray type sizes pairs) = made (node.NewArray (type_here type).tree (trees sizes) pairs)
   tree_step (IExpr-F.ArrayLit type items) = made (node.ArrayLit (type_here type).tree (trees items))
   tree_step (IExpr-F.Braces items) = made (node.Braces (trees items))
@@ -291,7 +287,7 @@ module _ (writer : Writer) (locals : Locals Id) where
       after (e.references (Some [])) (outside_target name) (method_asked e.static_type name (length args)) ++ each_alone args
   references_step (IExpr-F.OutsideSuperCall name args) mode =
       plain (outside_target name) (super_method_asked name (length args)) ∷ each_alone args
-  references_step (IExpr-F.NewOutside type args) mode = (created_type (length args) type).references ++ each_alone args
+  references_step (IExpr-F.NewOutside type args) mode = (type_here type).references ++ each_alone args
   references_step (IExpr-F.NewArray type sizes pairs) mode = (type_here type).references ++ each_alone sizes
   references_step (IExpr-F.ArrayLit type items) mode = (type_here type).references ++ each_alone items
   references_step (IExpr-F.Braces items) mode = each_alone items

@@ -2,16 +2,16 @@
 use Rattle.std.specs.Prelude.{Bool, List, [], ◌∷◌, ◌++◌, map, length, Option, Some, None, codes}
 use Rattle.mol_base.specs.declared.ident.Id.{Id}
 use Rattle.mol_spell_rules.specs.references.References.{method_target, default_target, outside_target}
-use Rattle.mol_values.specs.declared.iblock.IBlock.{IBlock, fold-IBlock}
-use Rattle.mol_values.specs.declared.iblock.IBody.{IBody}
-use Rattle.mol_values.specs.declared.iblock.IDeclarator.{IDeclarator}
-use Rattle.mol_values.specs.declared.iblock.IElse.TheOpen.{IElse-F, IStmtNode-F, IBlock-F, IIf-F, IStmt-F}
-use Rattle.mol_values.specs.declared.iblock.IForStart.{IForStart}
-use Rattle.mol_values.specs.declared.iblock.IForStart.TheVariants as starts
-use Rattle.mol_values.specs.declared.iblock.ILet.{ILet}
-use Rattle.mol_values.specs.declared.iexpr.Argument.{Argument}
-use Rattle.mol_values.specs.declared.iexpr.IExpr.{IExpr}
-use Rattle.mol_values.specs.declared.itype.IType.{IType}
+use Rattle.mol_values_types.specs.declared.iblock.IBlock.{IBlock, fold-IBlock}
+use Rattle.mol_values_types.specs.declared.iblock.IBody.{IBody}
+use Rattle.mol_values_types.specs.declared.iblock.IDeclarator.{IDeclarator}
+use Rattle.mol_values_types.specs.declared.iblock.IElse.TheOpen.{IElse-F, IStmtNode-F, IBlock-F, IIf-F, IStmt-F}
+use Rattle.mol_values_types.specs.declared.iblock.IForStart.{IForStart}
+use Rattle.mol_values_types.specs.declared.iblock.IForStart.TheVariants as starts
+use Rattle.mol_values_types.specs.declared.iblock.ILet.{ILet}
+use Rattle.mol_values_types.specs.declared.iexpr.Argument.{Argument}
+use Rattle.mol_values_types.specs.declared.iexpr.IExpr.{IExpr}
+use Rattle.mol_values_types.specs.declared.itype.IType.{IType}
 use Rattle.jav_tree.specs.Blocks.{block_of}
 use Rattle.jav_tree.specs.declared.expr.Expr.{Expr}
 use Rattle.jav_tree.specs.declared.stmt.Block.{Block}
@@ -30,7 +30,7 @@ use Rattle.mol_resolve_rules.specs.Locals.{Locals, no_locals, declare, at_end_of
 use Rattle.mol_resolve_rules.specs.ProgramViews.{seen}
 use Rattle.mol_spell_rules.specs.SpelledExpressions.{trees, spelled_expr, plain, alone, each_alone}
 use Rattle.mol_spell_rules.specs.SpelledTypes.{SpelledType, spelled_type}
-use Rattle.mol_spell_rules.specs.Writers.{Writer, hides_none, type_asked, super_constructor_asked, Reference}
+use Rattle.mol_spell_rules.specs.Writers.{Writer, hides_none, super_constructor_asked, Reference}
 
 -- ---- writing on
 
@@ -98,7 +98,7 @@ module _ (writer : Writer) where
 
   -- The type of a declaration: no variable hides a class there.
   abbrev pub declared_type : Locals Id → IType → SpelledType
-  declared_type locals type = spelled_type writer hides_none locals (λ text. type_asked text) type
+  declared_type locals type = spelled_type writer hides_none locals type
 
   -- ---- declarations of locals (JLS 14.4)
 

@@ -3,29 +3,29 @@ use Rattle.std.specs.Prelude.{Bool, List, [], ◌∷◌, Some, codes}
 use Prim.Native.String.{String}
 use Rattle.mol_base.specs.declared.ident.Id.{Id}
 use Rattle.mol_spell_rules.specs.references.References.{Target, class_target, outside_target}
-use Rattle.mol_values.specs.declared.itype.IType.{IType, fold-IType}
-use Rattle.mol_values.specs.declared.itype.IType.TheOpen.{IType-F}
+use Rattle.mol_values_types.specs.declared.itype.IType.{IType, fold-IType}
+use Rattle.mol_values_types.specs.declared.itype.IType.TheOpen.{IType-F}
 use Rattle.jav_tree.specs.declared.types.TypeName.{TypeName}
 use Rattle.jav_tree.specs.declared.types.TypeName.TheVariants as types
 use Rattle.jav_names.specs.DottedNames.{Name}
 use Rattle.jav_names.specs.TypeTexts.{imported_text}
 use Rattle.mol_resolve_rules.specs.Locals.{Locals}
-use Rattle.mol_spell_rules.specs.Writers.{Importable, program_class, outside_import, Writer, spelled, text_of, Use, use_of, written_use, Asked, Reference}
+use Rattle.mol_spell_rules.specs.Writers.{Importable, program_class, outside_import, Writer, spelled, text_of, Use, use_of, written_use, type_asked, Reference}
 
 -- a type as it is written, and the references in it
 pub record SpelledType : Type 0 where
   pub tree : TypeName
   pub references : List Reference
 
--- in this file, where these names are hidden and these locals are declared, and where the name of a type asks this
-module _ (writer : Writer) (hides : Name → Bool) (locals : Locals Id) (asks : Name → Asked) where
+-- in this file, where these names are hidden and these locals are declared
+module _ (writer : Writer) (hides : Name → Bool) (locals : Locals Id) where
   abbrev pub primitive : String → SpelledType
   primitive word = record { tree = types.Prim (codes word); references = [] }
 
   abbrev pub named : Target → Name → Use → SpelledType
   named target text used = record {
     tree = types.Named text;
-    references = record { target = target; asked = asks text; uses = Some used; locals = locals } ∷ [];
+    references = record { target = target; asked = type_asked text; uses = Some used; locals = locals } ∷ [];
   }
 
   -- what may be imported, and the names that follow it

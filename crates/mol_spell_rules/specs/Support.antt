@@ -7,18 +7,18 @@ use Rattle.std.specs.List.Sorted.{IsStrictlySortedBy}
 use Rattle.std.specs.Prelude.{◌↔◌}
 use Rattle.mol_base.specs.declared.ident.Id.{Id}
 use Rattle.mol_spell_rules.specs.references.References.{Target, class_target, field_target, method_target, param_target, default_target}
-use Rattle.mol_table.specs.Ancestors.{way}
-use Rattle.mol_table.specs.Mentions.{Role, a_called_method, a_static_method, a_constructor, mentions}
-use Rattle.mol_table.specs.Program.{Program, value_at, owner_at, method_of_param, cell}
-use Rattle.mol_table.specs.Tidy.{tidy}
-use Rattle.mol_values.specs.Order.{cell_cmp}
-use Rattle.mol_values.specs.Slots.{has_slot}
-use Rattle.mol_values.specs.declared.cell.Cell.{Cell}
-use Rattle.mol_values.specs.declared.cell.Slot.{Slot}
-use Rattle.mol_values.specs.declared.cell.Slot.TheVariants as slots
-use Rattle.mol_values.specs.declared.kind.MethodKind.TheVariants.{Constructor}
-use Rattle.mol_values.specs.declared.known.Known.TheVariants as knowns
-use Rattle.mol_values.specs.declared.value.Value.{Value}
+use Rattle.mol_table_rules.specs.Ancestors.{way}
+use Rattle.mol_table_rules.specs.Mentions.{Role, a_called_method, a_static_method, a_constructor, mentions}
+use Rattle.mol_table_rules.specs.Program.{Program, value_at, owner_at, method_of_param, cell}
+use Rattle.mol_table_rules.specs.Tidy.{tidy}
+use Rattle.mol_values_types.specs.Order.{cell_cmp}
+use Rattle.mol_values_types.specs.Slots.{has_slot}
+use Rattle.mol_values_types.specs.declared.cell.Cell.{Cell}
+use Rattle.mol_values_types.specs.declared.cell.Slot.{Slot}
+use Rattle.mol_values_types.specs.declared.cell.Slot.TheVariants as slots
+use Rattle.mol_values_types.specs.declared.kind.MethodKind.TheVariants.{Constructor}
+use Rattle.mol_values_types.specs.declared.known.Known.TheVariants as knowns
+use Rattle.mol_values_types.specs.declared.value.Value.{Value}
 use Rattle.jav_names.specs.DottedNames.{Name}
 use Rattle.mol_spell_rules.specs.DefaultCreations.{default_creations}
 use Rattle.mol_spell_rules.specs.FaultList.{FaultTarget, Fault, same_address, false_override, apart, outside_name, missing, misread, local_clash, package_is_class, fault_target}

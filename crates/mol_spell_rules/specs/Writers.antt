@@ -2,7 +2,7 @@
 use Rattle.std.specs.Prelude.{ℕ, Bool, true, false, ◌&&◌, not, [], ◌∷◌, Option, if◌then◌else◌}
 use Rattle.mol_base.specs.declared.ident.Id.{Id}
 use Rattle.mol_spell_rules.specs.references.References.{Target}
-use Rattle.mol_table.specs.Program.{Program, package_at, name_at}
+use Rattle.mol_table_rules.specs.Program.{Program, package_at, name_at}
 use Rattle.jav_names.specs.DottedNames.{Name, Names, Dotted, joined, cut, simple_name}
 use Rattle.jav_names.specs.LookUps.{variable}
 use Rattle.jav_names.specs.OnValues.{StaticType}

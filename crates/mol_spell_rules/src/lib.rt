@@ -1,5 +1,5 @@
-//! Programs as they are written: each name by what it is the name of, with the imports that it needs, and the faults for which a program
-//! does not mean the same once it is printed.
+//! Programs as they are written: each name by what it is the name of, with the imports that it needs; the names that a value prints, in
+//! their order; and the faults for which a program does not mean the same once it is printed.
 //!
 //! The definitions stand in `specs/`, and the contracts of the crates above cite them. The calls here compute nothing: each carries
 //! laws of the definitions.

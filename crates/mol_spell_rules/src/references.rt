@@ -1,7 +1,7 @@
 //! The references of a value: the names that it prints by what they are the names of, in the order in which they print.
 //!
-//! They are a definition in `specs/`, which the contracts of the crates above cite. The calls here compute nothing: each carries laws of
-//! the references.
+//! They are a definition in `specs/references/`, which the contracts of the crates above cite. The calls here compute nothing: each
+//! carries laws of the references.
 
 ghost use Rattle.mol_spell_rules.specs.references.InOrder.{ExpressionsInOrder, StatementsInOrder};
 ghost use Rattle.mol_spell_rules.specs.references.Named.{ReferencesName};

@@ -10,7 +10,7 @@ use Rattle.std.proofs.lemmas.List.Elements.{All-more, All-weaker}
 use Rattle.std.proofs.lemmas.List.Sorted.{All-permutation, searchable_from_sorted}
 use Rattle.mol_base.specs.declared.ident.Id.{Id}
 use Rattle.mol_base.specs.Order.{id_cmp, id_cmp-total}
-use Rattle.mol_table.specs.Identities.{AscendsTo, IsAscending}
+use Rattle.mol_table_rules.specs.Identities.{AscendsTo, IsAscending}
 use Rattle.mol_table.proofs.Identities.{sorted-ascending}
 
 -- the first identity comes before the second

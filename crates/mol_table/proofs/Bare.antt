@@ -13,16 +13,16 @@ use Rattle.std.specs.FinMap.Entries.{below_all, is_some-find}
 use Rattle.mol_base.specs.Order.{id_cmp, id_cmp-total, id_cmp-IsAntisymmetric}
 use Rattle.mol_base.specs.declared.ident.Id.{Id}
 use Rattle.mol_table.specs.Bare.{lesser, plain_in, bare_of, is_decl_in, is_bare_by, bare_by}
-use Rattle.mol_table.specs.Counting.{living_as, living_of, is_of}
-use Rattle.mol_table.specs.Life.{is_decl_of}
-use Rattle.mol_table.specs.Program.{Program, same_id, living_at, owner_at, params_at}
-use Rattle.mol_table.specs.Tidy.{is_constructor, is_plain, is_living_decl_in, bare_constructor}
+use Rattle.mol_table_rules.specs.Counting.{living_as, living_of, is_of}
+use Rattle.mol_table_rules.specs.Life.{is_decl_of}
+use Rattle.mol_table_rules.specs.Program.{Program, same_id, living_at, owner_at, params_at}
+use Rattle.mol_table_rules.specs.Tidy.{is_constructor, is_plain, is_living_decl_in, bare_constructor}
 use Rattle.mol_table.specs.Tidying.{bare_in}
-use Rattle.mol_values.specs.TokenForms.{is_empty}
-use Rattle.mol_values.specs.declared.known.Known.{Known}
-use Rattle.mol_values.specs.declared.known.Known.TheVariants as knowns
-use Rattle.mol_table.proofs.Counts.{none-some, some-same, each_found}
-use Rattle.mol_table.proofs.Living.{id_tied, same_id-own}
+use Rattle.mol_values_types.specs.TokenForms.{is_empty}
+use Rattle.mol_values_types.specs.declared.known.Known.{Known}
+use Rattle.mol_values_types.specs.declared.known.Known.TheVariants as knowns
+use Rattle.mol_table_rules.proofs.Counts.{none-some, some-same, each_found}
+use Rattle.mol_table_rules.proofs.Living.{id_tied, same_id-own}
 
 -- ---- lists in order
 

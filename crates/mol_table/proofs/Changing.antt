@@ -6,21 +6,22 @@ use Rattle.std.specs.List.Sorted.{IsSorted}
 use Rattle.std.specs.FinMap.{get}
 use Rattle.mol_base.specs.Order.{id_cmp}
 use Rattle.mol_base.specs.declared.ident.Id.{Id}
-use Rattle.mol_table.specs.Counting.{Counts, Counted, living_of, recounted, number_at, one_if, is_of}
-use Rattle.mol_table.specs.Life.{entity_in}
-use Rattle.mol_table.specs.Maps.{program_in, counts_in, counts_of, cells_of, knowns_of, IsOrdered, Stands, AreFresh, AreApart}
-use Rattle.mol_table.specs.Program.{Program, Knowns, same_id}
-use Rattle.mol_table.specs.Rules.{IsProgram}
-use Rattle.mol_values.specs.Slots.{has_slot}
-use Rattle.mol_table.specs.Writes.{with_value, with_values, with_entity, known_as}
-use Rattle.mol_values.specs.declared.cell.Cell.{Cell}
-use Rattle.mol_values.specs.declared.cell.Slot.{Slot}
-use Rattle.mol_table.specs.declared.entity.NewEntity.{NewEntity}
-use Rattle.mol_values.specs.declared.known.Known.{Known}
+use Rattle.mol_table_rules.specs.Counting.{Counts, Counted, living_of, recounted, number_at, one_if, is_of}
+use Rattle.mol_table_rules.specs.Life.{entity_in}
+use Rattle.mol_table.specs.Maps.{program_in, counts_in, counts_of, cells_of, knowns_of, IsOrdered, Stands}
+use Rattle.mol_table_rules.specs.Room.{AreFresh, AreApart}
+use Rattle.mol_table_rules.specs.Program.{Program, Knowns, same_id}
+use Rattle.mol_table_rules.specs.Rules.{IsProgram}
+use Rattle.mol_values_types.specs.Slots.{has_slot}
+use Rattle.mol_table_rules.specs.Writes.{with_value, with_values, with_entity, known_as}
+use Rattle.mol_values_types.specs.declared.cell.Cell.{Cell}
+use Rattle.mol_values_types.specs.declared.cell.Slot.{Slot}
+use Rattle.mol_table_rules.specs.declared.entity.NewEntity.{NewEntity}
+use Rattle.mol_values_types.specs.declared.known.Known.{Known}
 use Rattle.mol_table.specs.declared.maps.Maps.{Maps}
-use Rattle.mol_values.specs.declared.value.Value.{Value}
+use Rattle.mol_values_types.specs.declared.value.Value.{Value}
 use Rattle.mol_table.proofs.Counted.{counted-value, number-recounted, recounted-kept, number-some}
-use Rattle.mol_table.proofs.Living.{id_tied}
+use Rattle.mol_table_rules.proofs.Living.{id_tied}
 
 -- ---- room that is made changes nothing
 
@@ -45,15 +46,6 @@ stands-arranged old new rest known ordered rules counted =
       counted = subst (λ p. Counted p (counts_in new)) (sym program) (subst (Counted (program_in old)) (sym (ap counts_in rest)) counted);
       ordered = ordered;
     }
-
--- ---- the identity of a cell that is there is known
-
-slot_some : (known : Option Known) (slot : Slot) → has_slot known slot ≡ true → is_some known ≡ true
-slot_some None slot has = has
-slot_some (Some known) slot has = refl
-
-pub owner-known : (program : Program) → IsProgram program → (at : Cell) → IsSome (get program.cells at) → IsSome (get program.known at.id)
-owner-known program rules at there = slot_some (get program.known at.id) at.slot (sym (rules.whole at.id at.slot) ∙ there)
 
 -- ---- `set`
 

@@ -8,7 +8,7 @@ use Rattle.std.specs.Cmp.{IsTotalOrder}
 use Rattle.std.specs.Ordering.{eq_by_cmp}
 use Rattle.std.specs.declared.cmp.Ordering.{Ordering}
 use Rattle.std.specs.FinMap.{FinMap, IsAntisymmetric, get, from_entries, get-from_entries, find, same_map}
-use Rattle.mol_table.proofs.Counts.{tied}
+use Rattle.mol_table_rules.proofs.Counts.{tied}
 
 -- a list up to the next place ends in the item at that place
 pub take-item : {A : Type 0} (xs : List A) (i : ℕ) (x : A) → i < length xs → x ≡ get_or xs i x → take (i + 1) xs ≡ take i xs ++ x ∷ []

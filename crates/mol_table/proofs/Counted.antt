@@ -4,23 +4,23 @@ use Rattle.std.proofs.Common.{refl, sym, ap, subst, ◌∙◌, arith, true≢fal
 use Rattle.std.specs.FinMap.{get, insert, get-insert}
 use Rattle.mol_base.specs.Order.{id_cmp-total, id_cmp-IsAntisymmetric}
 use Rattle.mol_base.specs.declared.ident.Id.{Id}
-use Rattle.mol_table.specs.Counting.{one_if, Counts, number_at, living_as, living_of, is_of, Counted, same_method, recounted, raised, lowered, counted_by}
-use Rattle.mol_table.specs.Life.{is_living_decl, entity_in}
+use Rattle.mol_table_rules.specs.Counting.{one_if, Counts, number_at, living_as, living_of, is_of, Counted, same_method, recounted, raised, lowered, counted_by}
+use Rattle.mol_table_rules.specs.Life.{is_living_decl, entity_in}
 use Rattle.mol_table.specs.Maps.{program_in, counts_in}
-use Rattle.mol_table.specs.Program.{Program, same_id, living_at}
-use Rattle.mol_table.specs.Rules.{IsProgram, fills}
-use Rattle.mol_table.specs.Mentions.{a_method}
-use Rattle.mol_table.specs.Writes.{with_value, with_entity}
-use Rattle.mol_values.specs.declared.cell.Cell.{Cell}
-use Rattle.mol_table.specs.declared.entity.NewEntity.{NewEntity}
-use Rattle.mol_values.specs.declared.kind.MethodKind.{MethodKind}
-use Rattle.mol_values.specs.declared.known.Known.{Known}
-use Rattle.mol_values.specs.declared.known.Known.TheVariants as knowns
+use Rattle.mol_table_rules.specs.Program.{Program, same_id, living_at}
+use Rattle.mol_table_rules.specs.Rules.{IsProgram, fills}
+use Rattle.mol_table_rules.specs.Mentions.{a_method}
+use Rattle.mol_table_rules.specs.Writes.{with_value, with_entity}
+use Rattle.mol_values_types.specs.declared.cell.Cell.{Cell}
+use Rattle.mol_table_rules.specs.declared.entity.NewEntity.{NewEntity}
+use Rattle.mol_values_types.specs.declared.kind.MethodKind.{MethodKind}
+use Rattle.mol_values_types.specs.declared.known.Known.{Known}
+use Rattle.mol_values_types.specs.declared.known.Known.TheVariants as knowns
 use Rattle.mol_table.specs.declared.maps.Maps.{Maps}
-use Rattle.mol_values.specs.declared.value.Value.{Value}
-use Rattle.mol_table.proofs.Counts.{none-some, count-le, part-le}
-use Rattle.mol_table.proofs.Living.{same_id-own, id_tied, counts_for-is, moves-value, moves-entity, entity-elsewhere, number-raised, number-lowered}
-use Rattle.mol_table.proofs.Writing.{method-kept}
+use Rattle.mol_values_types.specs.declared.value.Value.{Value}
+use Rattle.mol_table_rules.proofs.Counts.{none-some, count-le, part-le}
+use Rattle.mol_table_rules.proofs.Living.{same_id-own, id_tied, counts_for-is, moves-value, moves-entity, entity-elsewhere, number-raised, number-lowered}
+use Rattle.mol_table_rules.proofs.Writing.{method-kept}
 
 -- ---- numbers are small, and a method with living declarations has a place
 

@@ -6,7 +6,7 @@ use Rattle.std.specs.Ordering.{eq_by_cmp, is_eq}
 use Rattle.std.specs.Cmp.{IsTotalOrder}
 use Rattle.std.specs.Map.{lookup}
 use Rattle.std.specs.FinMap.{IsAntisymmetric, get, from_entries}
-use Rattle.mol_values.proofs.Lookups.{get_is}
+use Rattle.mol_values_types.proofs.Lookups.{get_is}
 
 tied-equal : (o : Ordering) → is_eq o ≡ true → o ≡ Equal
 tied-equal Less e = absurd cc

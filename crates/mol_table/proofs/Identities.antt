@@ -15,16 +15,16 @@ use Rattle.std.proofs.lemmas.Map.Keys.{apart_from_distinct, IsDistinct-IsPermuta
 use Rattle.indexmap.specs.IndexMap.{insert_entry}
 use Rattle.mol_base.specs.declared.ident.Id.{Id}
 use Rattle.mol_base.specs.Order.{id_cmp, id_cmp-total, id_cmp-IsAntisymmetric}
-use Rattle.mol_table.specs.Identities.{AscendsTo, IsAscending}
+use Rattle.mol_table_rules.specs.Identities.{AscendsTo, IsAscending}
 use Rattle.mol_table.specs.Maps.{StartsWith, knowns_of}
-use Rattle.mol_values.specs.Order.{id_eq}
-use Rattle.mol_table.specs.Program.{same_id}
-use Rattle.mol_values.specs.declared.known.Known.{Known}
-use Rattle.mol_values.specs.declared.known.Known.TheVariants as knowns
-use Rattle.mol_table.proofs.Living.{id_tied, same_id-own}
-use Rattle.mol_values.proofs.Lookups.{get_is}
-use Rattle.mol_table.proofs.Programs.{ascending, keys-known}
-use Rattle.mol_values.proofs.Ties.{id_ties}
+use Rattle.mol_values_types.specs.Order.{id_eq}
+use Rattle.mol_table_rules.specs.Program.{same_id}
+use Rattle.mol_values_types.specs.declared.known.Known.{Known}
+use Rattle.mol_values_types.specs.declared.known.Known.TheVariants as knowns
+use Rattle.mol_table_rules.proofs.Living.{id_tied, same_id-own}
+use Rattle.mol_values_types.proofs.Lookups.{get_is}
+use Rattle.mol_table_rules.proofs.Programs.{ascending, keys-known}
+use Rattle.mol_values_types.proofs.Ties.{id_ties}
 
 abbrev pub ids_of : List (Id × Known) → List Id
 ids_of entries = map (λ entry. entry.0) entries

@@ -6,9 +6,9 @@ use Rattle.std.specs.Option.{option_map_or}
 use Rattle.std.specs.Ordering.{is_lt}
 use Rattle.mol_base.specs.Order.{id_cmp}
 use Rattle.mol_base.specs.declared.ident.Id.{Id}
-use Rattle.mol_table.specs.Counting.{living_of, is_of}
-use Rattle.mol_table.specs.Program.{Program, same_id, owner_at}
-use Rattle.mol_table.specs.Tidy.{is_plain}
+use Rattle.mol_table_rules.specs.Counting.{living_of, is_of}
+use Rattle.mol_table_rules.specs.Program.{Program, same_id, owner_at}
+use Rattle.mol_table_rules.specs.Tidy.{is_plain}
 
 -- the lesser of an identity and the one there is
 abbrev pub lesser : Option Id → Id → Id

@@ -4,11 +4,12 @@ ghost use Rattle.indexmap.specs.IndexMap.{spare};
 ghost use Rattle.std.specs.FinMap as map;
 ghost use Rattle.std.specs.Vec.{vec_capacity};
 ghost use Rattle.mol_base.specs.declared.ident.Id.{Id as Identity};
-ghost use Rattle.mol_table.specs.Counting.{number_at, living_of, Counted, counted_by, raised, lowered, recounted, same_method};
-ghost use Rattle.mol_table.specs.Maps.{cells_of, knowns_of, counts_of, program_in, counts_in, StartsWith, AreKnown, NamesKnown, names_in, names_among, values_in, names_of, AreFresh, AreApart};
-ghost use Rattle.mol_table.specs.Life.{entity_in};
-ghost use Rattle.mol_table.specs.Program.{living_at, params_at, params_in};
-ghost use Rattle.mol_table.specs.Writes.{kept_or, with_params, known_by, known_as, with_value, with_values, with_entity, with_entities};
+ghost use Rattle.mol_table_rules.specs.Counting.{number_at, living_of, Counted, counted_by, raised, lowered, recounted, same_method};
+ghost use Rattle.mol_table.specs.Maps.{cells_of, knowns_of, counts_of, program_in, counts_in, StartsWith};
+ghost use Rattle.mol_table_rules.specs.Room.{AreKnown, NamesKnown, names_in, names_among, values_in, names_of, AreFresh, AreApart};
+ghost use Rattle.mol_table_rules.specs.Life.{entity_in};
+ghost use Rattle.mol_table_rules.specs.Program.{living_at, params_at, params_in};
+ghost use Rattle.mol_table_rules.specs.Writes.{kept_or, with_params, known_by, known_as, with_value, with_values, with_entity, with_entities};
 
 mod ascending;
 mod bare;
@@ -17,15 +18,15 @@ mod copy;
 mod first_cells;
 mod tidied;
 
-use crate::NewEntity;
 use crate::maps::first_cells::place_in_base;
 use indexmap::IndexMap;
 use mol_base::{Id, OutOfMemory};
-use mol_values::{Cell, Kind, Known, Param, Slot, Value};
+use mol_table_rules::NewEntity;
+use mol_values_types::{Cell, Kind, Known, Param, Slot, Value};
 
 /// A value for each cell, what each identity is known as, and how many declarations of each method live.
 #[derive(Drop)]
-pub(crate) struct Maps {
+pub struct Maps {
     pub cells: IndexMap<Cell, Value>,
     /// Ascending by identity, but while entities are added or a value is set.
     pub known: IndexMap<Id, Known>,
@@ -161,7 +162,7 @@ impl Maps {
     }
 
     /// Whether all of these parameters are known.
-    pub fn all_known(&self, params: &[Param]) -> bool
+    pub(crate) fn all_known(&self, params: &[Param]) -> bool
         ensures { IsTrue result ↔ AreKnown (program_in self.now).known params.now }
     {
         for param in params {
@@ -197,7 +198,7 @@ impl Maps {
 
     /// Writes a value into a cell, and makes known what it makes known. The cell is there or there is room
     /// for it, and so for what becomes known.
-    pub fn write(&mut self, cell: Cell, value: Value)
+    pub(crate) fn write(&mut self, cell: Cell, value: Value)
         requires cell { (0 < spare self.old.cells) ⊎ IsSome (map.get (program_in self.old).cells cell) }
         requires names { (names_in value ≤ spare self.old.known) ⊎ NamesKnown (program_in self.old).known cell.id value }
         ensures program { program_in self.new ≡ with_value (program_in self.old) cell value }
@@ -286,7 +287,7 @@ impl Maps {
 
     /// Counts an identity anew that was a living declaration of the first method, and is one of the
     /// second. Both have a number, and that of the first is not 0.
-    pub fn recount(&mut self, was: Option<Id>, now: Option<Id>)
+    pub(crate) fn recount(&mut self, was: Option<Id>, now: Option<Id>)
         requires was { (own : Id) → was ≡ Some own → IsSome (map.get (counts_in self.old) own) }
         requires now { (own : Id) → now ≡ Some own → IsSome (map.get (counts_in self.old) own) }
         requires some { (own : Id) → was ≡ Some own → 1 ≤ number_at (counts_in self.old) own }
@@ -303,7 +304,7 @@ impl Maps {
 
     /// Makes room for the parameters that a value lists, where not all of them are known, and to sort them
     /// in among what is known.
-    pub fn reserve_for(&mut self, id: &Id, value: &Value) -> Result<Vec<Id>, OutOfMemory>
+    pub(crate) fn reserve_for(&mut self, id: &Id, value: &Value) -> Result<Vec<Id>, OutOfMemory>
         requires { IsSome (map.get (program_in self.old).known id.now) }
         ensures room { IfOk result (λ room. ((names_in value.now ≤ spare self.new.known) × (length self.old.known.entries + names_in value.now ≤ vec_capacity room))
             ⊎ NamesKnown (program_in self.old).known id.now value.now) }
@@ -365,7 +366,7 @@ impl Maps {
     }
 
     /// Adds entities one after another, and counts them. There is room for them.
-    pub fn put_entities(&mut self, entities: Vec<NewEntity>)
+    pub(crate) fn put_entities(&mut self, entities: Vec<NewEntity>)
         requires cells { values_in entities.items ≤ spare self.old.cells }
         requires names { names_of entities.items ≤ spare self.old.known }
         requires living { length entities.items ≤ spare self.old.living }

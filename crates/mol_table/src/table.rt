@@ -1,24 +1,22 @@
 //! The table: a program as finite maps.
-ghost use Rattle.std.specs.Prelude.{◌≡◌, ◌↔◌, IsTrue, Some, IsSome, IsOk, IfOk, OnOk, OnErr, option_copied};
-ghost use Rattle.std.specs.List.{list_any, All};
+ghost use Rattle.std.specs.Prelude.{◌≡◌, Some, IsSome, IsOk, IfOk, OnOk, OnErr, option_copied};
+ghost use Rattle.std.specs.List.{list_any};
 ghost use Rattle.std.specs.FinMap as map;
-ghost use Rattle.mol_table.specs.Agreement.{AgreeAt, AgreeIfLiving, LivingAgree};
-ghost use Rattle.mol_table.specs.Identities.{IsAscending, AreKnown};
-ghost use Rattle.mol_table.specs.Life.{lives, lives_method, lists, is_living_entity};
-ghost use Rattle.mol_values.specs.Order.{id_eq};
-ghost use Rattle.mol_table.specs.Program.{Program, nothing, kind_of, method_of_param, params_in};
-ghost use Rattle.mol_table.specs.Maps.{AreKnown as ParamsKnown};
-ghost use Rattle.mol_table.specs.Renumber.{renumber, MayRenumber};
-ghost use Rattle.mol_table.specs.Rules.{IsProgram};
-ghost use Rattle.mol_table.specs.Sameness.{Same, IsSameness};
-ghost use Rattle.mol_table.specs.Tidy.{tidy};
-ghost use Rattle.mol_table.specs.Writes.{with_value, with_entities, AreNew};
+ghost use Rattle.mol_table_rules.specs.Identities.{IsAscending, AreKnown};
+ghost use Rattle.mol_table_rules.specs.Life.{lives, lives_method, lists};
+ghost use Rattle.mol_values_types.specs.Order.{id_eq};
+ghost use Rattle.mol_table_rules.specs.Program.{Program, nothing, kind_of, method_of_param, params_in};
+ghost use Rattle.mol_table.specs.Maps.{program_in, Stands};
+ghost use Rattle.mol_table_rules.specs.Room.{AreKnown as ParamsKnown};
+ghost use Rattle.mol_table_rules.specs.Rules.{IsProgram};
+ghost use Rattle.mol_table_rules.specs.Tidy.{tidy};
+ghost use Rattle.mol_table_rules.specs.Writes.{with_value, with_entities, AreNew};
 
-use crate::NewEntity;
 use crate::maps::Maps;
 use indexmap::IndexMap;
 use mol_base::{Id, List, OutOfMemory};
-use mol_values::{Cell, Kind, Known, Param, Slot, Value};
+use mol_table_rules::NewEntity;
+use mol_values_types::{Cell, Kind, Known, Param, Slot, Value};
 use std::alloc::Global;
 use std::marker::Model;
 
@@ -30,12 +28,13 @@ pub struct Table {
 }
 
 impl Model for Table {
-    ghost use Rattle.mol_table.specs.Program.{Program};
-    ghost use Rattle.mol_table.specs.Maps.{program_code, program_in, Stands};
+    ghost use Rattle.mol_table_rules.specs.Program.{Program};
+    ghost use Rattle.mol_table.specs.Maps.{program_in, Stands};
+    ghost use Rattle.mol_table_rules.specs.Program.{program_code};
     ghost use Rattle.mol_base.specs.contracts.ident.Id as id;
-    ghost use Rattle.mol_values.specs.contracts.cell.Cell as cell;
-    ghost use Rattle.mol_values.specs.contracts.known.Known as what;
-    ghost use Rattle.mol_values.specs.contracts.value.Value as value;
+    ghost use Rattle.mol_values_types.specs.contracts.cell.Cell as cell;
+    ghost use Rattle.mol_values_types.specs.contracts.known.Known as what;
+    ghost use Rattle.mol_values_types.specs.contracts.value.Value as value;
 
     ghost Value = { Program };
 
@@ -59,6 +58,24 @@ impl Table {
                 first_cells: Vec::new(alloc),
             },
         }
+    }
+
+    /// The table that these maps are. It takes no memory.
+    ///
+    /// The rules of programs hold on them, what is known ascends, and the counts are those of the living declarations.
+    pub fn of_maps(maps: Maps) -> Table
+        requires { Stands maps }
+        ensures { result ≡ program_in maps }
+    {
+        Table { maps }
+    }
+
+    /// The maps that the table keeps, for what goes through all that it has. It takes no memory.
+    pub fn maps(&self) -> &Maps
+        ensures program { program_in result.now ≡ self.now }
+        ensures stands { Stands result.now }
+    {
+        &self.maps
     }
 
     /// What an identity is known as: all that the conditions of operations ask. `None` exactly where it
@@ -134,68 +151,6 @@ impl Table {
         self.maps.known.keys().as_slice()
     }
 
-    /// Whether the same entities live in both tables and have the same values in all their cells. What
-    /// does not live, and which parameters are known, is not looked at. It takes no memory, and a look-up
-    /// for each cell.
-    pub fn same(&self, other: &Table) -> bool
-        ensures same { IsTrue result ↔ Same self.now other.now }
-        ensures equivalence { IsSameness }
-    {
-        self.living_agree(other) && other.living_agree(self)
-    }
-
-    /// Whether each entity that lives here lives in the other table, with the same cells.
-    fn living_agree(&self, other: &Table) -> bool
-        ensures { IsTrue result ↔ LivingAgree self.now other.now }
-    {
-        for id in self.ids() {
-            if !self.agree_if_living(other, id) {
-                return false;
-            }
-        }
-        true
-    }
-
-    /// Whether an entity does not live here, or lives in both tables with the same cells.
-    fn agree_if_living(&self, other: &Table, id: &Id) -> bool
-        ensures { IsTrue result ↔ AgreeIfLiving self.now other.now id.now }
-    {
-        if !self.is_living_entity(id) {
-            return true;
-        }
-        if !other.is_living_entity(id) {
-            return false;
-        }
-        self.agree(other, id, &Slot::ALL)
-    }
-
-    /// Whether this is an entity, and lives.
-    fn is_living_entity(&self, id: &Id) -> bool
-        ensures { result ≡ is_living_entity self.now id.now }
-    {
-        match self.known(*id) {
-            None => false,
-            Some(Known::Param(_)) => false,
-            Some(_) => self.lives(*id),
-        }
-    }
-
-    /// Whether an identity has the same values in these slots in both tables.
-    fn agree(&self, other: &Table, id: &Id, slots: &[Slot]) -> bool
-        ensures { IsTrue result ↔ All (AgreeAt self.now other.now id.now) slots.now }
-    {
-        for slot in slots {
-            let cell = Cell {
-                id: *id,
-                slot: *slot,
-            };
-            if !same_values(self.get(&cell), other.get(&cell)) {
-                return false;
-            }
-        }
-        true
-    }
-
     /// A table that equals this one. The time is that of a look-up for each cell and each identity.
     pub fn copy(&self, alloc: Global) -> Result<Table, OutOfMemory>
         ensures { IfOk result (λ copy. copy ≡ self.now) }
@@ -217,26 +172,6 @@ impl Table {
     {
         Ok(Table {
             maps: self.maps.tidied(alloc)?,
-        })
-    }
-
-    /// The table with what lives alone, under the identities of a base: numbered from 1, with the empty tag.
-    /// Classes go first, by the paths of their files; then fields and declarations class by class, in the
-    /// order of their identities, in which they print; then methods in the order of their topmost
-    /// declarations, each followed by its present parameters. All that names an identity names the new one.
-    ///
-    /// The table is tidied, each method that lives has a topmost declaration, what lives refers to what is
-    /// there, and there are less than 2 to the 32nd identities that live. A table without faults that is
-    /// tidied is so. The time is that of some look-ups for each cell and each identity, and of sorting what
-    /// lives. Where superclasses run in a circle, topmost declarations are looked for by a pass over all
-    /// identities for each living declaration, and one more for each declaration of its method that is tried,
-    /// which goes up from each living declaration of the method. `Err` is want of memory.
-    pub fn renumber(&self, alloc: Global) -> Result<Table, OutOfMemory>
-        requires { MayRenumber self.now }
-        ensures { IfOk result (λ renumbered. renumbered ≡ renumber self.now) }
-    {
-        Ok(Table {
-            maps: self.maps.renumbered(alloc)?,
         })
     }
 
@@ -272,19 +207,8 @@ impl Table {
 }
 
 /// Whether a list has the parameter.
-pub(crate) fn is_among(id: &Id, params: &[Param]) -> bool
+fn is_among(id: &Id, params: &[Param]) -> bool
     ensures { result ≡ list_any (λ param. id_eq id.now param.id) params.now }
 {
     params.iter().any(|param| *id == param.id)
-}
-
-/// Whether both cells have a value and the same one, or neither has one.
-fn same_values(first: Option<&Value>, second: Option<&Value>) -> bool
-    ensures { IsTrue result ↔ (option_copied first.entry ≡ option_copied second.entry) }
-{
-    match (first, second) {
-        (None, None) => true,
-        (Some(first), Some(second)) => first.same(second),
-        _ => false,
-    }
 }

@@ -1,12 +1,16 @@
 -- From what stopped a run, or what was made, to what it answers.
-use Rattle.std.proofs.Common.{◌≡◌, ℕ, Option, sym, ◌∙◌, ap, refl, subst, inl, inr, List, take, Bool, true, false}
+use Rattle.std.proofs.Common.{◌≡◌, ℕ, zero, suc, Option, sym, ◌∙◌, ap, refl, subst, inl, inr, List, [], ◌∷◌, take, slice_get, Bool, true, false, arith}
+use Rattle.std.specs.List.{All}
 use Rattle.std.specs.Prelude.{None, Some}
+use Rattle.std.proofs.lemmas.Option.{same_Some}
 use Rattle.mol_outside.specs.Contents.{Contents, appended, elsewhere}
-use Rattle.mol_base.specs.Files.{file_pairs}
-use Rattle.mol_top.specs.Command.{Command, paths_of}
+use Rattle.mol_base.specs.declared.file.File.{File}
+use Rattle.mol_base.specs.Files.{FilePair, file_pair, file_pairs}
+use Rattle.mol_top.specs.Carried.{CarriesOwn, IsInOut, WritesOwn}
+use Rattle.mol_top.specs.Command.{Command, NamedPaths, paths_of}
 use Rattle.mol_top.specs.Outcome.{Refuses, HasCause, ByNames, HasLine, Leaves, IsPrefix, WasRefusing, IsSameInEitherOrder}
 use Rattle.mol_top.specs.Output.{written_all}
-use Rattle.mol_top.specs.Outside.{Store, State}
+use Rattle.mol_top.specs.Outside.{Sink, State, Store}
 use Rattle.mol_top.specs.Prepared.{Prepares, IsStopped, StopsCommand}
 use Rattle.mol_top.specs.Report.{line_bytes, names_addresses, refusal_line}
 use Rattle.mol_top.specs.Steps.{StopsBy, IsNamed, AnsweredAs, IsCarriedOut, IsRefusal, IsFinal, HasPart, IsWriteFailed, IsCutAt, IsLeft}
@@ -140,6 +144,35 @@ module _ (c : Command) (old new : State) (work : Work) (made : Prepares c old.st
     )),
   )
   done_prefix s left = tt
+
+-- # What is carried
+
+-- a refusal, or the failed put of its line
+pub refused_cause : (c : Option Command) (old new : State) (status result : Status) → AnsweredAs old.sink new.sink status result
+    → HasCause c old new status → HasCause c old new result
+refused_cause c old new status (WriteFailed p) answer cause = inr answer
+refused_cause c old new status s answer cause = subst (HasCause c old new) (sym answer) cause
+
+pub answered_carries : (paths : NamedPaths) (old new : Sink) (status result : Status) → AnsweredAs old new status result
+    → CarriesOwn paths status → CarriesOwn paths result
+answered_carries paths old new status (WriteFailed p) answer carried = inl answer.0
+answered_carries paths old new status s answer carried = subst (CarriesOwn paths) (sym answer) carried
+
+-- what holds of the paths of files holds of one of them
+at_place : (P : List ℕ → Type 0) (files : List File) (place : ℕ) (file : FilePair) → slice_get (file_pairs files) place ≡ Some file
+    → All (λ (f : File). P f.path) files → P file.0
+at_place P [] place file at all = absurd cc
+at_place P (f ∷ files) zero file at all = subst (λ (x : FilePair). P x.0) (same_Some (file_pair f) file at) (all 0 f (omega arith))
+at_place P (f ∷ files) (suc place) file at all = at_place P files place file at (λ k d within. all (suc k) d (omega (arith, within)))
+
+pub done_carries : (paths : NamedPaths) (work : Work) (old new : State) (result : Status) → WritesOwn paths work
+    → IsCarriedOut work old new result → IsLeft work old new result → CarriesOwn paths result
+done_carries paths work old new (WriteFailed path) inside carried (inl cut) =
+    inr (subst (IsInOut paths) cut.1.named (at_place (IsInOut paths) work.files.items cut.1.place cut.1.file cut.1.next inside))
+done_carries paths work old new (WriteFailed path) inside carried (inr left) = inl left.0
+done_carries paths work old new Done inside carried left = tt
+done_carries paths work old new (Conflicts n) inside carried left = tt
+done_carries paths work old new s inside carried left = absurd carried
 
 -- # Either order of the logs
 

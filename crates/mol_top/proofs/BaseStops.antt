@@ -1,19 +1,18 @@
 -- What stops the reading of a base, and a command that begins with it.
 use Rattle.std.proofs.Common.{◌≡◌, ◌⊎◌, inl, inr, ℕ, Bool, true, false, List, refl, sym, ◌∙◌, ap, subst}
 use Rattle.std.specs.Prelude.{Some}
-use Rattle.std.specs.Option.{ForSome}
 use Rattle.mol_base.specs.declared.file.File.{File}
 use Rattle.mol_base.specs.Files.{FilePair, file_pairs}
 use Rattle.mol_outside.specs.Contents.{Contents}
 use Rattle.mol_program.specs.Programs.{IsReadAs}
-use Rattle.mol_table.specs.Program.{Program}
+use Rattle.mol_table_rules.specs.Program.{Program}
 use Rattle.mol_top.proofs.Stopping.{said_plain, store_plain}
 use Rattle.mol_top.specs.Answers.{store_status}
 use Rattle.mol_top.specs.Bases.{BaseRefuses, IsBaseOf, RefuseFiles, RefuseProgram}
 use Rattle.mol_top.specs.CleanBases.{HasBaseLine, HasBaseLineBy, IsBaseStopped}
 use Rattle.mol_top.specs.Command.{Command, paths_of}
 use Rattle.mol_top.specs.Outcome.{ByNames, IsAddressesLine, Refuses}
-use Rattle.mol_top.specs.Outside.{Store}
+use Rattle.mol_top.specs.Outside.{IfTold, Store}
 use Rattle.mol_top.specs.Prepared.{IsStopped}
 use Rattle.mol_top.specs.Refusals.{AreBaseFiles}
 use Rattle.mol_top.specs.Refused.{IsForFile, IsForMemory, IsRefusalOfFiles, IsRefusalOfProgram}
@@ -103,7 +102,7 @@ module _ (base : List ℕ) (old new : Store) where
     line = plain-line base old refusal (ap names_addresses is.status) (is.line ∙ ap refusal_line (sym is.status));
   }
 
-module _ (base : List ℕ) (old new : Store) (read : List File) (are : ForSome old.held (λ h. AreBaseFiles base h read)) (refusal : Refusal) where
+module _ (base : List ℕ) (old new : Store) (read : List File) (are : IfTold old.held (λ h. AreBaseFiles base h read)) (refusal : Refusal) where
   for-file : IsForFile (file_pairs read) refusal → IsBaseStopped base old new refusal
   for-file is =
       let said : Status = BaseRefused (Source is.refused.place is.refused.fault) in
@@ -120,7 +119,7 @@ module _ (base : List ℕ) (old new : Store) (read : List File) (are : ForSome o
 
 -- # The program of a base is refused
 
-module _ (base : List ℕ) (old new : Store) (program : Program) (of : ForSome old.held (λ h. IsBaseOf base h program)) (refusal : Refusal) where
+module _ (base : List ℕ) (old new : Store) (program : Program) (of : IfTold old.held (λ h. IsBaseOf base h program)) (refusal : Refusal) where
   pub program_stopped : IsRefusalOfProgram program refusal → IsBaseStopped base old new refusal
   program_stopped (inl memory) = for-memory base old new refusal memory
   program_stopped (inr fault) = record {

@@ -1,5 +1,5 @@
 -- What an answer carries, from a step to the whole.
-use Rattle.std.proofs.Common.{◌≡◌, ℕ, zero, suc, inr, List, [], ◌∷◌, map, sym, refl, arith, Bool, true, false, cond}
+use Rattle.std.proofs.Common.{◌≡◌, ℕ, zero, suc, inl, inr, List, [], ◌∷◌, map, sym, refl, arith, Bool, true, false, cond}
 use Rattle.std.specs.Prelude.{filter}
 use Rattle.std.specs.List.{Contains}
 use Rattle.mol_top.specs.Carried.{Carries, IsSourcePath}
@@ -7,7 +7,7 @@ use Rattle.mol_top.specs.Command.{joined}
 use Rattle.mol_top.specs.Files.{is_java}
 use Rattle.mol_top.specs.Steps.{IsAmong}
 use Rattle.mol_top.specs.declared.status.Status.{Status}
-use Rattle.mol_top.specs.declared.status.Status.TheVariants.{ReadFailed, Missing, OutInUse, Limit}
+use Rattle.mol_top.specs.declared.status.Status.TheVariants.{ReadFailed, Missing, WriteFailed, OutInUse, Limit}
 
 -- a step carries what the whole may carry
 pub Carries-more : (r0 r1 i0 i1 o0 o1 : List ℕ → Type 0) (s : Status) → ((p : List ℕ) → r1 p → r0 p) → ((p : List ℕ) → i1 p → i0 p)
@@ -15,6 +15,8 @@ pub Carries-more : (r0 r1 i0 i1 o0 o1 : List ℕ → Type 0) (s : Status) → ((
 Carries-more r0 r1 i0 i1 o0 o1 (ReadFailed p) r i o carried = r p carried
 Carries-more r0 r1 i0 i1 o0 o1 (Missing p) r i o carried = i p carried
 Carries-more r0 r1 i0 i1 o0 o1 (OutInUse p) r i o carried = o p carried
+Carries-more r0 r1 i0 i1 o0 o1 (WriteFailed p) r i o (inl none) = inl none
+Carries-more r0 r1 i0 i1 o0 o1 (WriteFailed p) r i o (inr below) = inr (o p below)
 Carries-more r0 r1 i0 i1 o0 o1 (Limit w n) r i o carried = carried
 Carries-more r0 r1 i0 i1 o0 o1 s r i o carried = tt
 

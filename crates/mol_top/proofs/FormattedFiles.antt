@@ -1,11 +1,10 @@
 -- What `fmt` makes of a base, and what stops it after that was read.
 use Rattle.std.proofs.Common.{◌≡◌, ◌⊎◌, inl, inr, ℕ, refl, sym, ◌∙◌, ap, subst, List, arith}
 use Rattle.std.specs.Prelude.{None, Some}
-use Rattle.std.specs.Option.{ForSome}
 use Rattle.mol_outside.specs.Contents.{Contents}
 use Rattle.mol_spell_rules.specs.Clean.{Clean}
-use Rattle.mol_table.specs.Program.{Program}
-use Rattle.mol_table.specs.Rules.{IsProgram as KeepsRules}
+use Rattle.mol_table_rules.specs.Program.{Program}
+use Rattle.mol_table_rules.specs.Rules.{IsProgram as KeepsRules}
 use Rattle.mol_top.proofs.BaseStops.{base_stopped, program_stopped}
 use Rattle.mol_top.proofs.Carrying.{Carries-more}
 use Rattle.mol_top.proofs.ReadBases.{base_carries, unclean_carries}
@@ -16,7 +15,7 @@ use Rattle.mol_top.specs.Carried.{Carries, CarriesOwn, IsInOut, IsInput, IsInsid
 use Rattle.mol_top.specs.Command.{Command, FmtWords, fmt_paths}
 use Rattle.mol_top.specs.Formatting.{FmtRefuses, MakesFiles, fmt_outcome, output_refusal, program_heights, program_texts}
 use Rattle.mol_top.specs.Output.{texts_refusal}
-use Rattle.mol_top.specs.Outside.{OnlyReads, Store}
+use Rattle.mol_top.specs.Outside.{IfTold, OnlyReads, Store}
 use Rattle.mol_top.specs.Prepared.{IsStopped, Prepares, StopsCommand}
 use Rattle.mol_top.specs.ProgramWork.{IsCleanWork, IsProgramStopped}
 use Rattle.mol_top.specs.Refusals.{out_refusal}
@@ -52,8 +51,8 @@ module _ (out : List ℕ) (program : Program) where
 
 -- # The command
 
-module _ (w : FmtWords) (old : Store) (program : Program) (base : ForSome old.held (λ h. IsCleanBase w.base h program)) where
-  pub fmt_prepared : (mid : Store) (work : Work) → OnlyReads old mid → ForSome mid.held (λ h. MakesFiles w.out program h work)
+module _ (w : FmtWords) (old : Store) (program : Program) (base : IfTold old.held (λ h. IsCleanBase w.base h program)) where
+  pub fmt_prepared : (mid : Store) (work : Work) → OnlyReads old mid → IfTold mid.held (λ h. MakesFiles w.out program h work)
       → Prepares (Command.fmt w) old work
   fmt_prepared mid work before made = λ h e. let is = made h (before.held ∙ e) in record {
     outcome = fmt_outcome w.out (program_texts program);
@@ -89,8 +88,8 @@ fmt_carries w fault said carried (inr is) = subst (CarriesOwn (fmt_paths w)) (sy
 
 -- # The program of a base, clean or not
 
-module _ (w : FmtWords) (old : Store) (program : Program) (of : ForSome old.held (λ h. IsBaseOf w.base h program)) (rules : KeepsRules program) where
-  clean_base : Clean program → ForSome old.held (λ h. IsCleanBase w.base h program)
+module _ (w : FmtWords) (old : Store) (program : Program) (of : IfTold old.held (λ h. IsBaseOf w.base h program)) (rules : KeepsRules program) where
+  clean_base : Clean program → IfTold old.held (λ h. IsCleanBase w.base h program)
   clean_base clean = λ h e. record { is = of h e; rules = rules; clean = clean }
 
   pub work_prepared : (mid : Store) (work : Work) → OnlyReads old mid → IsCleanWork w.out program mid work → Prepares (Command.fmt w) old work

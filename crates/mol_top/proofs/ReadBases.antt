@@ -6,7 +6,7 @@ use Rattle.mol_outside.specs.Contents.{Contents}
 use Rattle.mol_program.specs.Programs.{IsReadAs, Refuses}
 use Rattle.mol_program.specs.declared.fault.ReadFault.{ReadFault}
 use Rattle.mol_program.specs.declared.fault.ReadFault.TheVariants as reads
-use Rattle.mol_table.specs.Program.{Program}
+use Rattle.mol_table_rules.specs.Program.{Program}
 use Rattle.mol_top.proofs.Carrying.{Carries-more}
 use Rattle.mol_top.specs.Answers.{read_status, store_status}
 use Rattle.mol_top.specs.Carried.{CarriesOwn, CarriesRead, IsInOut, IsInput, IsRead, IsSourcePath, NoPath}

@@ -1,7 +1,6 @@
 -- Reading file after file.
 use Rattle.std.proofs.Common.{◌≡◌, ℕ, zero, suc, ◌+◌, ◌<◌, ◌≤◌, List, [], ◌∷◌, ◌++◌, length, get_or, take, drop, map, sym, ◌∙◌, ap, refl, arith, length-append}
 use Rattle.std.specs.Prelude.{None, Some}
-use Rattle.std.specs.Option.{ForSome}
 use Rattle.std.specs.FinMap.{get}
 use Rattle.std.proofs.lemmas.List.{length-map, get_or-map, take_more, map_push, drop_more}
 use Rattle.std.specs.List.{Contains}
@@ -16,7 +15,7 @@ use Rattle.mol_base.specs.Files.{AreSmall, file_pair, file_pairs, file_paths, Fi
 use Rattle.mol_top.specs.Files.{base_paths, bytes_at, files_at}
 use Rattle.mol_top.specs.Command.{joined}
 use Rattle.mol_top.specs.Refusals.{absent_input, files_refusal, reading_refusal, size_refusal}
-use Rattle.mol_top.specs.Outside.{OnlyReads, Store}
+use Rattle.mol_top.specs.Outside.{IfTold, OnlyReads, Store}
 use Rattle.mol_top.proofs.Stopping.{OnlyReads-then}
 use Rattle.mol_top.specs.declared.status.Status.{Status}
 
@@ -28,7 +27,7 @@ pub record HasRead (old now : Store) (base : List ℕ) (paths : List (List ℕ))
   pub count : length read ≡ length (take done paths)
   pub small : AreSmall read
   pub within : total ≤ most SourceBytes
-  pub told : ForSome old.held (λ h. (files_refusal base h 0 paths ≡ files_refusal base h total (drop done paths)) × (file_pairs read ≡ files_at base h (take done paths)))
+  pub told : IfTold old.held (λ h. (files_refusal base h 0 paths ≡ files_refusal base h total (drop done paths)) × (file_pairs read ≡ files_at base h (take done paths)))
 
 -- one more path, whose file is there
 files-push : (base : List ℕ) (h : Contents) (paths : List (List ℕ)) (path bytes : List ℕ) → get h (joined base path) ≡ Some bytes → files_at base h (paths ++ path ∷ []) ≡ files_at base h paths ++ (path, bytes) ∷ []
@@ -47,7 +46,7 @@ small-push read file all small = All-append (λ (file : File). length file.bytes
 
 pub HasRead-more : (old mid now : Store) (base : List ℕ) (paths : List (List ℕ)) (i total sum : ℕ) (read : List File) (file : File)
     → HasRead old mid base paths i total read → i < length paths → file.path ≡ get_or paths i file.path
-    → OnlyReads mid now → ForSome mid.held (λ h. get h (joined base file.path) ≡ Some file.bytes)
+    → OnlyReads mid now → IfTold mid.held (λ h. get h (joined base file.path) ≡ Some file.bytes)
     → size_refusal total (length file.bytes) ≡ None → sum ≡ total + length file.bytes → sum ≤ most SourceBytes → length file.bytes ≤ most FileBytes
     → HasRead old now base paths (i + 1) sum (read ++ file ∷ [])
 HasRead-more old mid now base paths i total sum read file had within is reads there fits sums under small =

@@ -7,10 +7,10 @@ use Rattle.mol_faults_rules.specs.declared.fault.Fault.{Fault}
 use Rattle.mol_faults.specs.First.{IsFirst}
 use Rattle.mol_base.specs.Files.{FilePair}
 use Rattle.mol_program.specs.Programs.{AreRefused, IsReadAs}
-use Rattle.mol_program.specs.declared.fault.ProgramFault.{ProgramFault}
+use Rattle.mol_program.specs.declared.fault.SourceFault.{SourceFault}
 use Rattle.mol_spell_rules.specs.Clean.{Clean}
-use Rattle.mol_table.specs.Program.{Program}
-use Rattle.mol_table.specs.Rules.{IsProgram as KeepsRules}
+use Rattle.mol_table_rules.specs.Program.{Program}
+use Rattle.mol_table_rules.specs.Rules.{IsProgram as KeepsRules}
 use Rattle.mol_top.specs.Files.{base_files}
 use Rattle.mol_top.specs.Refusals.{reading_refusal}
 use Rattle.mol_top.specs.declared.status.BaseFault.TheVariants.{Source, Unclean}
@@ -31,7 +31,7 @@ pub record IsCleanBase (base : List ℕ) (held : Contents) (program : Program) :
 -- files are refused: for what is wrong with them first, at its place
 pub record RefuseFiles (files : List FilePair) (status : Status) : Type 0 where
   pub place : Place
-  pub fault : ProgramFault
+  pub fault : SourceFault
   pub wrong : AreRefused files place fault
   pub is : status ≡ BaseRefused (Source place fault)
 

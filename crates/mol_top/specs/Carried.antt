@@ -1,14 +1,16 @@
 -- Which paths and numbers an answer carries, whatever a store tells of what it holds.
-use Rattle.std.specs.Prelude.{◌≡◌, ◌⊎◌, ◌<◌, ℕ, ⊤, List, Some, IsSomeAnd, true}
-use Rattle.std.specs.List.{Contains}
+use Rattle.std.specs.Prelude.{◌≡◌, ◌⊎◌, ◌<◌, ℕ, ⊤, List, [], Some, IsSomeAnd, true}
+use Rattle.std.specs.List.{All, Contains}
 use Rattle.mol_base.specs.Limits.{most}
+use Rattle.mol_base.specs.declared.file.File.{File}
 use Rattle.mol_top.specs.Answers.{store_status}
 use Rattle.mol_top.specs.Command.{NamedPaths, joined}
 use Rattle.mol_top.specs.Files.{is_java}
 use Rattle.mol_top.specs.declared.fault.LimitFault.{LimitFault}
 use Rattle.mol_top.specs.declared.fault.StoreFault.{StoreFault}
+use Rattle.mol_top.specs.declared.output.Work.{Work}
 use Rattle.mol_top.specs.declared.status.Status.{Status}
-use Rattle.mol_top.specs.declared.status.Status.TheVariants.{ReadFailed, Missing, OutInUse, Limit}
+use Rattle.mol_top.specs.declared.status.Status.TheVariants.{ReadFailed, Missing, WriteFailed, OutInUse, Limit}
 
 -- no path
 abbrev pub NoPath : List ℕ → Type 0
@@ -26,11 +28,13 @@ IsSourcePath base path = (path ≡ base) ⊎ ((below : List ℕ) × (is_java bel
 abbrev pub IsAbove : LimitFault → Type 0
 IsAbove fault = most fault.which < fault.number
 
--- an answer carries such a path: one that was not read, an input that is missing, a file that is in use; and a number above its limit
+-- An answer carries such a path: one that was not read, an input that is missing, a file that is in use or whose write failed, for which the
+-- empty path is that of what is printed; and a number above its limit.
 abbrev pub Carries : (List ℕ → Type 0) → (List ℕ → Type 0) → (List ℕ → Type 0) → Status → Type 0
 Carries reads inputs outs (ReadFailed path) = reads path
 Carries reads inputs outs (Missing path) = inputs path
 Carries reads inputs outs (OutInUse path) = outs path
+Carries reads inputs outs (WriteFailed path) = (path ≡ []) ⊎ outs path
 Carries reads inputs outs (Limit which number) = most which < number
 Carries reads inputs outs status = ⊤
 
@@ -55,3 +59,13 @@ IsInOut paths path = IsSomeAnd paths.out (λ out. IsInside out path)
 -- an answer carries a path of its command
 abbrev pub CarriesOwn : NamedPaths → Status → Type 0
 CarriesOwn paths status = Carries (IsRead paths) (IsInput paths) (IsInOut paths) status
+
+-- # What is written
+
+-- all files that are written lie below a folder
+abbrev pub WritesInside : List ℕ → Work → Type 0
+WritesInside out work = All (λ (file : File). IsInside out file.path) work.files.items
+
+-- all files that are written lie below the folder of their command
+abbrev pub WritesOwn : NamedPaths → Work → Type 0
+WritesOwn paths work = All (λ (file : File). IsInOut paths file.path) work.files.items

@@ -1,7 +1,7 @@
 -- What `check` prints, and what refuses it.
 use Rattle.std.specs.Prelude.{◌≡◌, ℕ, [], length}
 use Rattle.mol_outside.specs.Contents.{Contents}
-use Rattle.mol_table.specs.Program.{Program}
+use Rattle.mol_table_rules.specs.Program.{Program}
 use Rattle.mol_top.specs.Bases.{BaseRefuses, IsCleanBase}
 use Rattle.mol_top.specs.Command.{CheckWords}
 use Rattle.mol_top.specs.Files.{base_files}

@@ -1,13 +1,12 @@
 -- What is read of a base that is a program, and what stops the reading.
 use Rattle.std.specs.Prelude.{◌≡◌, ℕ, Bool, true, false, List, length}
-use Rattle.std.specs.Option.{ForSome}
 use Rattle.mol_base.specs.Files.{FilePair}
 use Rattle.mol_outside.specs.Contents.{Contents}
 use Rattle.mol_program.specs.Programs.{IsReadAs}
 use Rattle.mol_top.specs.Bases.{BaseRefuses, IsBaseOf}
 use Rattle.mol_top.specs.Carried.{Carries, IsSourcePath, NoPath}
 use Rattle.mol_top.specs.Files.{base_files}
-use Rattle.mol_top.specs.Outside.{Store}
+use Rattle.mol_top.specs.Outside.{IfTold, Store}
 use Rattle.mol_top.specs.Report.{line_bytes, names_addresses, refusal_line}
 use Rattle.mol_top.specs.Steps.{IsBelow, StopsBy}
 use Rattle.mol_top.specs.UncleanLines.{IsProgramLine}
@@ -27,7 +26,7 @@ pub record IsReadOf (base : List ℕ) (held : Contents) (read : BaseProgram) : T
 
 -- the line of a refusal of a base, over what a store holds, where it tells: of one that names addresses, over the program of the base
 abbrev pub HasBaseLineBy : Bool → List ℕ → Store → Refusal → Type 0
-HasBaseLineBy true base store refusal = ForSome store.held (λ held. IsProgramLine base held refusal.status (line_bytes refusal.line))
+HasBaseLineBy true base store refusal = IfTold store.held (λ held. IsProgramLine base held refusal.status (line_bytes refusal.line))
 HasBaseLineBy false base store refusal = line_bytes refusal.line ≡ refusal_line refusal.status
 
 abbrev pub HasBaseLine : List ℕ → Store → Refusal → Type 0

@@ -1,5 +1,5 @@
 -- The words of a run.
-use Rattle.std.specs.Prelude.{ℕ, List, [], ◌∷◌, ◌++◌, codes, Option, None, Some, if◌then◌else◌, nat_eq}
+use Rattle.std.specs.Prelude.{ℕ, ◌==◌, Bool, ◌&&◌, not, List, [], ◌∷◌, ◌++◌, length, codes, Option, None, Some, if◌then◌else◌, nat_eq}
 use Rattle.std.specs.Cmp.Lexicographic.{pointwise}
 
 -- `merge BASE LOG1 LOG2 OUT`
@@ -24,14 +24,22 @@ pub data Command : Type 0 where
   check : CheckWords → Command
   fmt : FmtWords → Command
 
--- the command that the words spell, if they spell one
+-- the word of a command
+abbrev pub is_verb : List ℕ → List ℕ → Bool
+is_verb word verb = pointwise nat_eq word verb
+
+-- An empty word is no path: a path below it would begin with `/`, at the root of the file system.
+abbrev pub is_path : List ℕ → Bool
+is_path word = not (length word == 0)
+
+-- The command that the words spell, if they spell one. Each of its paths is a path.
 abbrev pub command : List (List ℕ) → Option Command
 command (verb ∷ base ∷ []) =
-    if pointwise nat_eq verb (codes "check") then Some (Command.check (record { base = base })) else None
+    if is_verb verb (codes "check") && is_path base then Some (Command.check (record { base = base })) else None
 command (verb ∷ base ∷ out ∷ []) =
-    if pointwise nat_eq verb (codes "fmt") then Some (Command.fmt (record { base = base; out = out })) else None
+    if is_verb verb (codes "fmt") && is_path base && is_path out then Some (Command.fmt (record { base = base; out = out })) else None
 command (verb ∷ base ∷ first ∷ second ∷ out ∷ []) =
-    if pointwise nat_eq verb (codes "merge")
+    if is_verb verb (codes "merge") && is_path base && is_path first && is_path second && is_path out
     then Some (Command.merge (record { base = base; first = first; second = second; out = out })) else None
 command words = None
 

@@ -7,7 +7,7 @@ use Rattle.mol_outside.specs.Contents.{Contents}
 use Rattle.mol_resolve_rules.specs.ReadAs.{SourceText}
 use Rattle.mol_spell_rules.specs.PrintedFiles.{printed_files}
 use Rattle.mol_spell_rules.specs.SpelledUnits.{SpelledUnit, spelling}
-use Rattle.mol_table.specs.Program.{Program}
+use Rattle.mol_table_rules.specs.Program.{Program}
 use Rattle.mol_top.specs.Bases.{BaseRefuses, IsCleanBase}
 use Rattle.mol_top.specs.Command.{FmtWords}
 use Rattle.mol_top.specs.Output.{IsWork, Outcome, below, texts_refusal}

@@ -1,11 +1,10 @@
 -- What a run answers, writes and prints.
 use Rattle.std.specs.Prelude.{◌≡◌, ◌≢◌, ℕ, ◌<◌, ◌⊎◌, ⊤, Bool, true, false, List, [], Option, None, Some, IsSomeAnd}
-use Rattle.std.specs.Option.{ForSome}
 use Rattle.mol_outside.specs.Contents.{Contents, appended, HasRisen}
 use Rattle.mol_top.specs.Checking.{CheckRefuses, CheckComesTo}
 use Rattle.mol_top.specs.Command.{Command, paths_of}
 use Rattle.mol_top.specs.Formatting.{FmtRefuses, FmtComesTo}
-use Rattle.mol_top.specs.Outside.{Store, State}
+use Rattle.mol_top.specs.Outside.{IfTold, State, Store}
 use Rattle.mol_top.specs.Output.{Outcome, written_all}
 use Rattle.mol_top.specs.Report.{names_addresses, refusal_line}
 use Rattle.mol_top.specs.Steps.{IsNamed, IsRefusal, IsFinal, HasFailed, HasPart, IsCutAt, IsUnreported}
@@ -39,7 +38,7 @@ IsAddressesLine (Command.fmt words) held status line = IsProgramLine words.base 
 
 -- the words spell a command, and over what the store held, where it tells, it comes to what is so
 abbrev pub Comes : Option Command → Store → (Outcome → Type 0) → Type 0
-Comes c store P = IsSomeAnd c (λ c. ForSome store.held (λ h. (outcome : Outcome) × ComesTo c h outcome × P outcome))
+Comes c store P = IsSomeAnd c (λ c. IfTold store.held (λ h. (outcome : Outcome) × ComesTo c h outcome × P outcome))
 
 -- # Causes of answers
 
@@ -53,7 +52,7 @@ HasCause c old new (WriteFailed path) = HasFailed old new path
 HasCause c old new Usage = c ≡ None
 HasCause c old new Done = Comes c old.store (λ outcome. outcome.conflicts ≡ 0)
 HasCause c old new (Conflicts count) = Comes c old.store (λ outcome. (count ≡ outcome.conflicts) × (0 < count))
-HasCause c old new status = IsSomeAnd c (λ c. ForSome old.store.held (λ h. Refuses c h status))
+HasCause c old new status = IsSomeAnd c (λ c. IfTold old.store.held (λ h. Refuses c h status))
 
 -- # What is left of the store and the sink
 
@@ -67,7 +66,7 @@ WritesNothing status = ⊤
 -- the store held, where it tells
 abbrev pub ByNames : Bool → Option Command → Store → Status → (List ℕ → Type 0) → Type 0
 ByNames true c store status P =
-    IsSomeAnd c (λ c. ForSome store.held (λ h. (line : List ℕ) × IsAddressesLine c h status line × P line))
+    IsSomeAnd c (λ c. IfTold store.held (λ h. (line : List ℕ) × IsAddressesLine c h status line × P line))
 ByNames false c store status P = P (refusal_line status)
 
 abbrev pub HasLine : Option Command → Store → Status → (List ℕ → Type 0) → Type 0

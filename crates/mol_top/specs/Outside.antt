@@ -1,5 +1,5 @@
 -- A store and a sink, as a run sees them.
-use Rattle.std.specs.Prelude.{◌≡◌, ◌≤◌, ℕ, List, Option}
+use Rattle.std.specs.Prelude.{◌≡◌, ◌≤◌, ℕ, List, Option, Some}
 use Rattle.mol_outside.specs.Contents.{Contents}
 use Rattle.mol_outside.specs.declared.outside.Files.{Ghosts as FilesGhosts}
 use Rattle.mol_outside.specs.declared.outside.Sink.{Ghosts as SinkGhosts}
@@ -14,6 +14,11 @@ pub record Store : Type 0 where
 pub record Sink : Type 0 where
   pub given : Option (List ℕ)
   pub puts : ℕ
+
+-- This holds of what the store holds, if it tells. A store may tell nothing of what it holds, as the folders of a computer do; of such a store
+-- nothing is said.
+abbrev pub IfTold : Option Contents → (Contents → Type 0) → Type 0
+IfTold held P = (contents : Contents) → held ≡ Some contents → P contents
 
 pub record State : Type 0 where
   pub store : Store

@@ -1,11 +1,10 @@
 -- What a command makes before the first write, and what stops it.
 use Rattle.std.specs.Prelude.{◌≡◌, Some}
-use Rattle.std.specs.Option.{ForSome}
 use Rattle.mol_outside.specs.Contents.{Contents}
 use Rattle.mol_top.specs.Command.{Command, paths_of}
 use Rattle.mol_top.specs.Outcome.{Refuses, ComesTo, HasLine}
 use Rattle.mol_top.specs.Output.{Outcome, IsWork}
-use Rattle.mol_top.specs.Outside.{Store}
+use Rattle.mol_top.specs.Outside.{IfTold, Store}
 use Rattle.mol_top.specs.Report.{line_bytes}
 use Rattle.mol_top.specs.Steps.{IsNamed, StopsBy}
 use Rattle.mol_top.specs.declared.output.Work.{Work}
@@ -20,7 +19,7 @@ pub record IsPrepared (c : Command) (held : Contents) (work : Work) : Type 0 whe
 
 -- this is made for the command over what the store holds, where it tells
 abbrev pub Prepares : Command → Store → Work → Type 0
-Prepares c store work = ForSome store.held (λ held. IsPrepared c held work)
+Prepares c store work = IfTold store.held (λ held. IsPrepared c held work)
 
 -- the command stops before the first write
 abbrev pub StopsCommand : Command → Store → Store → Status → Type 0

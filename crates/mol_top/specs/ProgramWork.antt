@@ -1,12 +1,11 @@
 -- What `fmt` makes of a program that was read, and what stops it.
 use Rattle.std.specs.Prelude.{◌≡◌, ◌⊎◌, ℕ, List}
-use Rattle.std.specs.Option.{ForSome}
 use Rattle.mol_spell_rules.specs.Clean.{Clean}
-use Rattle.mol_table.specs.Program.{Program}
+use Rattle.mol_table_rules.specs.Program.{Program}
 use Rattle.mol_top.specs.Answers.{store_status}
 use Rattle.mol_top.specs.Carried.{Carries, IsInside, NoPath}
 use Rattle.mol_top.specs.Formatting.{MakesFiles, output_refusal}
-use Rattle.mol_top.specs.Outside.{Store}
+use Rattle.mol_top.specs.Outside.{IfTold, Store}
 use Rattle.mol_top.specs.Refused.{IsRefusalOfProgram}
 use Rattle.mol_top.specs.Report.{line_bytes, refusal_line}
 use Rattle.mol_top.specs.Steps.{Only, Stops}
@@ -18,7 +17,7 @@ use Rattle.mol_top.specs.declared.status.Status.TheVariants.{OutOfMemory}
 -- the program is clean, and this is made of its files below a folder, where the store tells
 pub record IsCleanWork (out : List ℕ) (program : Program) (store : Store) (work : Work) : Type 0 where
   pub clean : Clean program
-  pub made : ForSome store.held (λ h. MakesFiles out program h work)
+  pub made : IfTold store.held (λ h. MakesFiles out program h work)
 
 -- the program is clean, and its files are stopped, or there is no memory for the line of what stops them
 pub record IsForFiles (out : List ℕ) (program : Program) (old new : Store) (refusal : Refusal) : Type 0 where

@@ -8,7 +8,7 @@ use Rattle.jav_tree.specs.WithParens.{unit_with_parens}
 use Rattle.mol_outside.specs.Contents.{Contents}
 use Rattle.jav_source.specs.Sources.{IsSettled, IsUnitOf}
 use Rattle.mol_spell_rules.specs.SpelledUnits.{SpelledUnit, spelling}
-use Rattle.mol_table.specs.Program.{Program}
+use Rattle.mol_table_rules.specs.Program.{Program}
 use Rattle.mol_top.specs.Bases.{IsCleanBase}
 use Rattle.mol_top.specs.Command.{Command, FmtWords}
 use Rattle.mol_top.specs.Formatting.{FmtComesTo, printed_height, program_texts}

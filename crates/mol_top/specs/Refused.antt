@@ -1,7 +1,7 @@
 -- Refusals of files and programs, each with its line.
 use Rattle.std.specs.Prelude.{◌≡◌, ◌⊎◌, List}
 use Rattle.mol_base.specs.Files.{FilePair}
-use Rattle.mol_table.specs.Program.{Program}
+use Rattle.mol_table_rules.specs.Program.{Program}
 use Rattle.mol_top.specs.Bases.{RefuseFiles, RefuseProgram}
 use Rattle.mol_top.specs.Report.{line_bytes, refusal_line}
 use Rattle.mol_top.specs.UncleanLines.{program_line}

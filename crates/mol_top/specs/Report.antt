@@ -7,7 +7,7 @@ use Rattle.mol_base.specs.declared.file.Place.{Place}
 use Rattle.mol_base.specs.declared.limit.Which.{Which}
 use Rattle.mol_base.specs.declared.limit.Which.TheVariants as limits
 use Rattle.mol_program.specs.FaultTexts.{name, feature}
-use Rattle.mol_program.specs.declared.fault.ProgramFault.{ProgramFault}
+use Rattle.mol_program.specs.declared.fault.SourceFault.{SourceFault}
 use Rattle.mol_top.specs.declared.refusal.Line.{Line}
 use Rattle.mol_top.specs.declared.refusal.Line.TheVariants.{Fixed, Made}
 use Rattle.mol_top.specs.declared.status.BaseFault.TheVariants.{Source, Unclean}
@@ -34,14 +34,14 @@ feature_text None = []
 feature_text (Some feature) = 32 ∷ feature_name feature
 
 -- what is wrong with a file: its name, and the part of Java that it refuses where it does
-abbrev pub fault_text : ProgramFault → List ℕ
+abbrev pub fault_text : SourceFault → List ℕ
 fault_text fault = name fault ++ feature_text (feature fault)
 
 -- the line of a refused base, by what is said of it
 abbrev pub base_line : List ℕ → List ℕ
 base_line text = codes "base " ++ text ++ 10 ∷ []
 
-abbrev pub source_text : Place → ProgramFault → List ℕ
+abbrev pub source_text : Place → SourceFault → List ℕ
 source_text place fault = place_text place ++ 32 ∷ fault_text fault
 
 abbrev pub limit_text : Which → List ℕ

@@ -1,6 +1,5 @@
 -- Why a step of a run stops, and how a refusal is answered.
 use Rattle.std.specs.Prelude.{◌≡◌, ◌≢◌, ◌<◌, ◌⊎◌, ⊤, ℕ, List, [], map, take, slice_get, Option, Some}
-use Rattle.std.specs.Option.{ForSome}
 use Rattle.std.specs.List.{Contains}
 use Rattle.mol_base.specs.declared.file.File.{File}
 use Rattle.mol_outside.specs.Contents.{Contents, HasRisen, appended, elsewhere}
@@ -8,7 +7,7 @@ use Rattle.mol_base.specs.Files.{file_pairs, FilePair}
 use Rattle.mol_top.specs.Answers.{store_status}
 use Rattle.mol_top.specs.Command.{NamedPaths, joined}
 use Rattle.mol_top.specs.Files.{base_paths}
-use Rattle.mol_top.specs.Outside.{Store, Sink, State}
+use Rattle.mol_top.specs.Outside.{IfTold, Sink, State, Store}
 use Rattle.mol_top.specs.Output.{written_all}
 use Rattle.mol_top.specs.Refusals.{files_refusal, reading_refusal}
 use Rattle.mol_top.specs.Report.{refusal_line}
@@ -30,7 +29,7 @@ IsAmong folder paths path = Contains (map (joined folder) paths) path
 
 -- a base or a file of it
 abbrev pub IsBelow : List ℕ → Option Contents → List ℕ → Type 0
-IsBelow base held path = (path ≡ base) ⊎ ForSome held (λ h. IsAmong base (base_paths base h) path)
+IsBelow base held path = (path ≡ base) ⊎ IfTold held (λ h. IsAmong base (base_paths base h) path)
 
 -- a path that the words of a command or the listing of its base name
 abbrev pub IsNamed : NamedPaths → Option Contents → List ℕ → Type 0
@@ -40,7 +39,7 @@ IsNamed paths held path = IsBelow paths.base held path ⊎ (Contains paths.input
 abbrev pub Stops : (List ℕ → Type 0) → Store → Store → (Contents → Option Status) → StoreFault → Type 0
 Stops reads old new refusal faults.OutOfMemory = ⊤
 Stops reads old new refusal (faults.ReadFailed path) = HasRisen old.reads new.reads × reads path
-Stops reads old new refusal fault = ForSome old.held (λ h. refusal h ≡ Some (store_status fault))
+Stops reads old new refusal fault = IfTold old.held (λ h. refusal h ≡ Some (store_status fault))
 
 -- the reading of the files at these paths below a folder stops
 abbrev pub StopsFiles : List ℕ → List (List ℕ) → Store → Store → StoreFault → Type 0
@@ -58,7 +57,7 @@ StopsBy reads old new refuses Done = ⊥
 StopsBy reads old new refuses (Conflicts count) = ⊥
 StopsBy reads old new refuses Usage = ⊥
 StopsBy reads old new refuses (WriteFailed path) = ⊥
-StopsBy reads old new refuses status = ForSome old.held (λ h. refuses h status)
+StopsBy reads old new refuses status = IfTold old.held (λ h. refuses h status)
 
 -- # Answers
 

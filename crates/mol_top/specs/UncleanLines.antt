@@ -3,7 +3,7 @@ use Rattle.std.specs.Prelude.{◌≡◌, ℕ, List}
 use Rattle.mol_faults_rules.specs.Kept.{kept_fault}
 use Rattle.mol_outside.specs.Contents.{Contents}
 use Rattle.mol_report.specs.FaultText.{fault_text}
-use Rattle.mol_table.specs.Program.{Program}
+use Rattle.mol_table_rules.specs.Program.{Program}
 use Rattle.mol_top.specs.Bases.{IsBaseOf}
 use Rattle.mol_top.specs.Report.{base_line, refusal_line}
 use Rattle.mol_top.specs.declared.status.BaseFault.TheVariants.{Unclean}

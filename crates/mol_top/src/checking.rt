@@ -1,6 +1,6 @@
 //! What `check` answers: whether the sources of a base are a clean program.
 ghost use Rattle.std.specs.Prelude.{IfErr, IfOk};
-ghost use Rattle.mol_top.specs.Carried.{CarriesOwn};
+ghost use Rattle.mol_top.specs.Carried.{CarriesOwn, WritesOwn};
 ghost use Rattle.mol_top.specs.Checking.{check_outcome};
 ghost use Rattle.mol_top.specs.Command.{check_paths};
 ghost use Rattle.mol_top.specs.Output.{IsReady, IsWork};
@@ -28,6 +28,7 @@ pub fn prepare_check<F: Files>(
     ensures only_reads { OnlyReads (store F.Files files.old) (store F.Files files.new) }
     ensures ready { IfOk result IsReady }
     ensures work { IfOk result (Prepares (check_command words.entry) (store F.Files files.old)) }
+    ensures inside { IfOk result (WritesOwn (check_paths (check_words words.entry))) }
     ensures stop { IfErr result (IsStopped (check_command words.entry) (store F.Files files.old) (store F.Files files.new)) }
     ensures carries { IfErr result (λ refusal. CarriesOwn (check_paths (check_words words.entry)) refusal.status) }
 {

@@ -1,15 +1,14 @@
 //! Bases that are programs, and whether these are clean.
 ghost use Rattle.std.specs.Prelude.{◌≡◌, IfErr, IfOk, OnOk, Some};
-ghost use Rattle.std.specs.Option.{ForSome};
 ghost use Rattle.mol_faults_rules.specs.Kept.{kept_fault};
 ghost use Rattle.mol_faults.specs.First.{IsFirst};
 ghost use Rattle.mol_base.specs.Files.{ArePathsApart, AreSmall, file_pairs};
 ghost use Rattle.mol_report.specs.FaultText.{fault_text};
 ghost use Rattle.mol_spell_rules.specs.Clean.{Clean};
-ghost use Rattle.mol_table.specs.Rules.{IsProgram as KeepsRules};
-ghost use Rattle.mol_table.specs.Tidy.{tidy};
+ghost use Rattle.mol_table_rules.specs.Rules.{IsProgram as KeepsRules};
+ghost use Rattle.mol_table_rules.specs.Tidy.{tidy};
 ghost use Rattle.mol_top.specs.CleanBases.{CarriesBase, IsBaseStopped, IsProgramOf, IsReadOf};
-ghost use Rattle.mol_top.specs.Outside.{OnlyReads, store};
+ghost use Rattle.mol_top.specs.Outside.{IfTold, OnlyReads, store};
 ghost use Rattle.mol_top.specs.Refused.{IsRefusalOfFiles, IsRefusalOfProgram};
 ghost use Rattle.mol_top.specs.Report.{base_line};
 
@@ -44,7 +43,7 @@ pub fn read_base_program<F: Files>(
     files: &mut F,
 ) -> Result<BaseProgram, Refusal>
     ensures only_reads { OnlyReads (store F.Files files.old) (store F.Files files.new) }
-    ensures base { IfOk result (λ read. ForSome (F.holds files.old) (λ held. IsReadOf base.now held read)) }
+    ensures base { IfOk result (λ read. IfTold (F.holds files.old) (λ held. IsReadOf base.now held read)) }
     ensures tidied { IfOk result (λ read. tidy read.table ≡ read.table) }
     ensures stop { IfErr result (IsBaseStopped base.now (store F.Files files.old) (store F.Files files.new)) }
     ensures carries { IfErr result (λ refusal. CarriesBase base.now refusal.status) }

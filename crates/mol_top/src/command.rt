@@ -1,6 +1,6 @@
 //! The commands, and their words.
 ghost use Rattle.std.specs.Prelude.{◌≡◌, option_map};
-ghost use Rattle.mol_top.specs.Command.{command};
+ghost use Rattle.mol_top.specs.Command.{command, is_path as is_path_word};
 ghost use Rattle.mol_top.specs.Words.{command_of};
 
 use mol_base::Text;
@@ -35,18 +35,23 @@ pub enum Command<'a> {
     Fmt(FmtWords<'a>),
 }
 
-/// The command that the words spell, if they spell one. The words are counted exactly.
+/// The command that the words spell, if they spell one. The words are counted exactly, and an empty word is no path.
 pub fn parse<'a>(words: &'a [Text]) -> Option<Command<'a>>
     ensures { option_map command_of result ≡ command words.now }
 {
     match words {
-        [verb, base] if verb.bytes() == b"check".as_slice() => {
+        [verb, base] if verb.bytes() == b"check".as_slice() && is_path(base) => {
             Some(Command::Check(CheckWords { base }))
         }
-        [verb, base, out] if verb.bytes() == b"fmt".as_slice() => {
+        [verb, base, out] if verb.bytes() == b"fmt".as_slice() && is_path(base) && is_path(out) => {
             Some(Command::Fmt(FmtWords { base, out }))
         }
-        [verb, base, first, second, out] if verb.bytes() == b"merge".as_slice() => {
+        [verb, base, first, second, out]
+            if verb.bytes() == b"merge".as_slice()
+                && is_path(base)
+                && is_path(first)
+                && is_path(second)
+                && is_path(out) => {
             Some(Command::Merge(MergeWords {
                 base,
                 first,
@@ -56,4 +61,11 @@ pub fn parse<'a>(words: &'a [Text]) -> Option<Command<'a>>
         }
         _ => None,
     }
+}
+
+/// Whether a word is a path: an empty one is none.
+fn is_path(word: &Text) -> bool
+    ensures { result ≡ is_path_word word.now }
+{
+    !word.bytes().is_empty()
 }

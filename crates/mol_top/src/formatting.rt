@@ -1,18 +1,17 @@
 //! What `fmt` writes: the program of a base as source files in the one layout.
 ghost use Rattle.std.specs.Prelude.{◌≡◌, IfErr, IfOk, map};
-ghost use Rattle.std.specs.Option.{ForSome};
 ghost use Rattle.mol_base.specs.Files.{file_pair, file_pairs};
 ghost use Rattle.mol_spell_rules.specs.PrintedFiles.{printed_text};
 ghost use Rattle.mol_spell.specs.keys.Keys.{key_of};
 ghost use Rattle.mol_spell.specs.Spelt.{spelled_of, unit_at};
-ghost use Rattle.mol_table.specs.Tidy.{tidy};
+ghost use Rattle.mol_table_rules.specs.Tidy.{tidy};
 ghost use Rattle.mol_top.specs.Answers.{store_status};
-ghost use Rattle.mol_top.specs.Carried.{Carries, CarriesOwn, IsInside, NoPath};
+ghost use Rattle.mol_top.specs.Carried.{Carries, CarriesOwn, IsInside, NoPath, WritesInside, WritesOwn};
 ghost use Rattle.mol_top.specs.Command.{fmt_paths};
 ghost use Rattle.mol_top.specs.Formatting.{IsTextWork, MakesFiles, output_refusal};
 ghost use Rattle.mol_top.specs.Formatting.{printed_height, program_heights, program_texts, written_text};
 ghost use Rattle.mol_top.specs.Output.{IsReady};
-ghost use Rattle.mol_top.specs.Outside.{OnlyReads, store};
+ghost use Rattle.mol_top.specs.Outside.{IfTold, OnlyReads, store};
 ghost use Rattle.mol_top.specs.Prepared.{IsStopped, Prepares};
 ghost use Rattle.mol_top.specs.ProgramWork.{IsCleanWork, IsProgramStopped};
 ghost use Rattle.mol_top.specs.Steps.{Only, Stops};
@@ -47,6 +46,7 @@ pub fn prepare_fmt<F: Files>(
     ensures only_reads { OnlyReads (store F.Files files.old) (store F.Files files.new) }
     ensures ready { IfOk result IsReady }
     ensures work { IfOk result (Prepares (fmt_command words.entry) (store F.Files files.old)) }
+    ensures inside { IfOk result (WritesOwn (fmt_paths (fmt_words words.entry))) }
     ensures stop { IfErr result (IsStopped (fmt_command words.entry) (store F.Files files.old) (store F.Files files.new)) }
     ensures carries { IfErr result (λ refusal. CarriesOwn (fmt_paths (fmt_words words.entry)) refusal.status) }
 {
@@ -66,6 +66,7 @@ fn program_work<F: Files>(
     ensures only_reads { OnlyReads (store F.Files files.old) (store F.Files files.new) }
     ensures ready { IfOk result IsReady }
     ensures work { IfOk result (IsCleanWork out.now table.now (store F.Files files.old)) }
+    ensures inside { IfOk result (WritesInside out.now) }
     ensures stop { IfErr result (IsProgramStopped out.now table.now (store F.Files files.old) (store F.Files files.new)) }
 {
     match ProgramIndex::new(alloc, table) {
@@ -85,6 +86,7 @@ fn clean_work<F: Files>(
     ensures only_reads { OnlyReads (store F.Files files.old) (store F.Files files.new) }
     ensures ready { IfOk result IsReady }
     ensures work { IfOk result (IsCleanWork out.now program.now (store F.Files files.old)) }
+    ensures inside { IfOk result (WritesInside out.now) }
     ensures stop { IfErr result (IsProgramStopped out.now program.now (store F.Files files.old) (store F.Files files.new)) }
 {
     refuse_unclean(alloc, program)?;
@@ -104,7 +106,8 @@ fn formatted<F: Files>(
     requires { tidy program.now ≡ program.now }
     ensures only_reads { OnlyReads (store F.Files files.old) (store F.Files files.new) }
     ensures ready { IfOk result IsReady }
-    ensures work { IfOk result (λ work. ForSome (F.holds files.old) (λ held. MakesFiles out.now program.now held work)) }
+    ensures work { IfOk result (λ work. IfTold (F.holds files.old) (λ held. MakesFiles out.now program.now held work)) }
+    ensures inside { IfOk result (WritesInside out.now) }
     ensures stop { IfErr result (Stops (Only out.now) (store F.Files files.old) (store F.Files files.new)
         (output_refusal out.now program.now)) }
     ensures carries { IfErr result (λ fault. Carries (Only out.now) NoPath (IsInside out.now) (store_status fault)) }

@@ -15,6 +15,7 @@ mod status;
 mod store;
 
 pub use mol_faults_rules::{Fault, Target};
+pub use mol_program::SourceFault;
 pub use mol_renames::{Conflict, ConflictKind, Entry, Log, LogCause, Op, RenameClass, ReplayFault};
 pub use report::USAGE;
 pub use running::run;

@@ -6,7 +6,7 @@ ghost use Rattle.mol_top.specs.Report.{fault_text, limit_text, log_line as log_l
 
 use crate::status::{BaseFault, Status};
 use mol_base::{OutOfMemory, Place, Tag, Text, Which};
-use mol_program::ProgramFault;
+use mol_program::SourceFault;
 use mol_renames::{LogCause, push_number};
 use std::alloc::Global;
 
@@ -67,7 +67,7 @@ fn path_line(alloc: Global, word: &[u8], path: &Text) -> Result<Vec<u8>, OutOfMe
 }
 
 /// The line of a base whose files are no program: a place in a file, and what is wrong there.
-fn base_line(alloc: Global, place: &Place, fault: &ProgramFault) -> Result<Vec<u8>, OutOfMemory>
+fn base_line(alloc: Global, place: &Place, fault: &SourceFault) -> Result<Vec<u8>, OutOfMemory>
     ensures { IfOk result (λ line. line.items ≡ base_line_of (source_text place.now fault.now)) }
 {
     let mut line = Vec::from_slice(alloc, b"base ")?;
@@ -81,7 +81,7 @@ fn push_fault(
     alloc: Global,
     out: &mut Vec<u8>,
     place: &Place,
-    fault: &ProgramFault,
+    fault: &SourceFault,
 ) -> Result<(), OutOfMemory>
     ensures { OnOk result (out.new.items ≡ out.old.items ++ source_text place.now fault.now) }
 {
@@ -95,7 +95,7 @@ fn push_fault(
 }
 
 /// Appends the name of a fault, and the part of Java that it refuses where it does.
-fn push_fault_name(out: &mut Vec<u8>, fault: &ProgramFault) -> Result<(), OutOfMemory>
+fn push_fault_name(out: &mut Vec<u8>, fault: &SourceFault) -> Result<(), OutOfMemory>
     ensures { OnOk result (out.new.items ≡ out.old.items ++ fault_text fault.now) }
 {
     out.extend_from_slice(fault.name().as_bytes())?;

@@ -2,7 +2,7 @@
 ghost use Rattle.std.specs.Prelude.{◌≡◌, IfOk, IfErr};
 ghost use Rattle.std.specs.Option.{ForSome};
 ghost use Rattle.mol_outside.specs.Contents.{Contents};
-ghost use Rattle.mol_top.specs.Carried.{CarriesOwn};
+ghost use Rattle.mol_top.specs.Carried.{CarriesOwn, WritesOwn};
 ghost use Rattle.mol_top.specs.Command.{command, paths_of};
 ghost use Rattle.mol_top.specs.Outcome.{HasCause, WritesNothing, Says, Leaves, IsPrefix, IsSameInEitherOrder};
 ghost use Rattle.mol_top.specs.Output.{IsReady};
@@ -28,6 +28,26 @@ use std::alloc::Global;
 /// them has a meaning, and keeps it in the files that the program is spelled as. `fmt BASE OUT` writes these files, in the one layout,
 /// below OUT. `merge BASE LOG1 LOG2 OUT` merges two logs over the files below BASE: it writes the merged files below OUT and then the
 /// merged log as `OUT/merged.mol`, or prints how the logs conflict. Everything that is written is made before the first write.
+///
+/// Each status comes where its condition holds, and none beside `OutOfMemory` where its condition does not:
+///
+/// | status | comes where |
+/// |---|---|
+/// | `Done` | nothing refuses the command, and all was written and printed |
+/// | `Conflicts` | nothing refuses a merge, the logs conflict in so many places, and all was printed |
+/// | `Usage` | the words are no row of the usage text; an empty word is no path |
+/// | `BaseRefused(Source(..))` | the files below BASE are no program: the first file that is no source, else the first fault of names |
+/// | `BaseRefused(Unclean(..))` | they are a program that is not clean: its first fault |
+/// | `LogRefused` | the two logs have one first tag, or a log does not replay on the base: the first log, else the second |
+/// | `ReadFailed` | a listing or a read of this path of the command failed |
+/// | `Missing` | no file below BASE ends in `.java`, or an input file is not there |
+/// | `WriteFailed` | the write of this file below OUT failed, or for the empty path the put of what is printed |
+/// | `OutOfMemory` | memory ran out, of which nothing is said |
+/// | `OutInUse` | a file lies below OUT: the least by its path |
+/// | `Limit` | a number passes its limit: of files, of bytes of a file or of all, or of the height of a tree |
+/// | `NotBuilt` | a file of the base of a merge, or a log, is not of the form that is built so far |
+///
+/// Of several refusals the first in the order of the command comes: the words, the base, the logs, OUT, what the logs leave, what is written.
 pub fn run<F: Files, S: Sink>(
     alloc: Global,
     words: &List<Text>,
@@ -37,7 +57,8 @@ pub fn run<F: Files, S: Sink>(
     // Each answer has its cause.
     ensures cause { HasCause (command words.now) (state F.Files S.Sink files.old out.old) (state F.Files S.Sink files.new out.new) result }
 
-    // What was not read, is missing or is in use has a path of the command, whatever the store tells; a number is above its limit.
+    // What was not read, is missing, is in use or was not written has a path of the command, whatever the store tells; a number is above its
+    // limit.
     ensures carries { ForSome (command words.now) (λ c. CarriesOwn (paths_of c) result) }
 
     // Without success no file is written.
@@ -72,6 +93,7 @@ fn prepare<F: Files>(alloc: Global, command: Command<'_>, files: &mut F) -> Resu
     ensures only_reads { OnlyReads (store F.Files files.old) (store F.Files files.new) }
     ensures ready { IfOk result IsReady }
     ensures work { IfOk result (Prepares (command_of command.entry) (store F.Files files.old)) }
+    ensures inside { IfOk result (WritesOwn (paths_of (command_of command.entry))) }
     ensures stop { IfErr result (IsStopped (command_of command.entry) (store F.Files files.old) (store F.Files files.new)) }
     ensures carries { IfErr result (λ refusal. CarriesOwn (paths_of (command_of command.entry)) refusal.status) }
 {

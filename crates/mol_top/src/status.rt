@@ -1,14 +1,14 @@
 //! The answers of a run.
 use mol_base::{OutOfMemory, Place, Text, Which};
 use mol_faults_rules::Fault;
-use mol_program::ProgramFault;
+use mol_program::SourceFault;
 use mol_renames::LogCause;
 
 /// Why a base is refused.
 #[derive(Drop)]
 pub enum BaseFault {
     /// The files are no program: the first fault, and where it is, with the path of its file relative to the base.
-    Source(Place, ProgramFault),
+    Source(Place, SourceFault),
     /// They are a program, which is not clean: its first fault.
     Unclean(Fault),
 }

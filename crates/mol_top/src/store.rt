@@ -1,7 +1,6 @@
 //! Reading listings and files of a store. Nothing is written.
 ghost use Rattle.std.specs.Prelude.{◌≡◌, ◌≤◌, ◌<◌, ◌+◌, IfOk, IfErr, OnOk, None, Some, filter, length};
 ghost use Rattle.std.specs.Cmp.Lexicographic.{slice_cmp};
-ghost use Rattle.std.specs.Option.{ForSome};
 ghost use Rattle.std.specs.FinMap.{get};
 ghost use Rattle.std.specs.List.Sorted.{IsStrictlySortedBy};
 ghost use Rattle.std.specs.Ordering.{nat_cmp};
@@ -12,7 +11,7 @@ ghost use Rattle.mol_top.specs.Answers.{limit_status, store_status};
 ghost use Rattle.mol_top.specs.Carried.{Carries, CarriesRead, IsAbove, IsInside, IsSourcePath, NoPath};
 ghost use Rattle.mol_top.specs.Command.{joined};
 ghost use Rattle.mol_top.specs.Files.{is_java};
-ghost use Rattle.mol_top.specs.Outside.{OnlyReads, store};
+ghost use Rattle.mol_top.specs.Outside.{IfTold, OnlyReads, store};
 ghost use Rattle.mol_top.specs.Refusals.{AreBaseFiles, AreFilesAt, absent_input, out_refusal, size_refusal};
 ghost use Rattle.mol_top.specs.Steps.{IsAmong, Only, Stops, StopsBase, StopsFiles};
 
@@ -47,7 +46,7 @@ pub fn read_input<F: Files>(
     files: &mut F,
 ) -> Result<List<u8>, StoreFault>
     ensures only_reads { OnlyReads (store F.Files files.old) (store F.Files files.new) }
-    ensures bytes { IfOk result (λ bytes. ForSome (F.holds files.old) (λ held. get held path.now ≡ Some bytes)) }
+    ensures bytes { IfOk result (λ bytes. IfTold (F.holds files.old) (λ held. get held path.now ≡ Some bytes)) }
     ensures stop { IfErr result (Stops (Only path.now) (store F.Files files.old) (store F.Files files.new) (absent_input path.now)) }
     ensures carries { IfErr result (CarriesRead (Only path.now)) }
 {
@@ -66,7 +65,7 @@ pub fn list_folder<F: Files>(
     files: &mut F,
 ) -> Result<List<Text>, StoreFault>
     ensures only_reads { OnlyReads (store F.Files files.old) (store F.Files files.new) }
-    ensures paths { IfOk result (λ paths. ForSome (F.holds files.old) (λ held. paths ≡ paths_below folder.now held)) }
+    ensures paths { IfOk result (λ paths. IfTold (F.holds files.old) (λ held. paths ≡ paths_below folder.now held)) }
     ensures ascending { IfOk result (IsStrictlySortedBy (slice_cmp nat_cmp)) }
     ensures stop { IfErr result (Stops (Only folder.now) (store F.Files files.old) (store F.Files files.new) (λ held. None)) }
     ensures carries { IfErr result (λ fault. Carries (Only folder.now) NoPath NoPath (store_status fault)) }
@@ -81,7 +80,7 @@ pub fn list_folder<F: Files>(
 /// Nothing lies below the folder in which files are to be written.
 pub fn check_out<F: Files>(alloc: Global, out: &Text, files: &mut F) -> Result<(), StoreFault>
     ensures only_reads { OnlyReads (store F.Files files.old) (store F.Files files.new) }
-    ensures free { OnOk result (ForSome (F.holds files.old) (λ held. out_refusal out.now held ≡ None)) }
+    ensures free { OnOk result (IfTold (F.holds files.old) (λ held. out_refusal out.now held ≡ None)) }
     ensures stop { IfErr result (Stops (Only out.now) (store F.Files files.old) (store F.Files files.new) (out_refusal out.now)) }
     ensures carries { IfErr result (λ fault. Carries (Only out.now) NoPath (IsInside out.now) (store_status fault)) }
 {
@@ -147,7 +146,7 @@ fn read_files<F: Files>(
     files: &mut F,
 ) -> Result<Vec<File>, StoreFault>
     ensures only_reads { OnlyReads (store F.Files files.old) (store F.Files files.new) }
-    ensures files { IfOk result (λ read. ForSome (F.holds files.old) (λ held. AreFilesAt base.now paths.items held read.items)) }
+    ensures files { IfOk result (λ read. IfTold (F.holds files.old) (λ held. AreFilesAt base.now paths.items held read.items)) }
     ensures paths { IfOk result (λ read. file_paths read.items ≡ paths.items) }
     ensures count { IfOk result (λ read. length read.items ≡ length paths.items) }
     ensures sizes { IfOk result (λ read. AreSmall read.items) }
@@ -172,7 +171,7 @@ pub fn read_base<F: Files>(
     files: &mut F,
 ) -> Result<Vec<File>, StoreFault>
     ensures only_reads { OnlyReads (store F.Files files.old) (store F.Files files.new) }
-    ensures base { IfOk result (λ read. ForSome (F.holds files.old) (λ held. AreBaseFiles base.now held read.items)) }
+    ensures base { IfOk result (λ read. IfTold (F.holds files.old) (λ held. AreBaseFiles base.now held read.items)) }
     ensures few { IfOk result (λ read. (0 < length read.items) × (length read.items ≤ most Which.Files)) }
     ensures apart { IfOk result (λ read. ArePathsApart (file_pairs read.items)) }
     ensures sizes { IfOk result (λ read. AreSmall read.items) }

@@ -1,7 +1,1 @@
-pub mod Blocks
-pub mod Order
-pub mod Renamed
 pub mod Renaming
-pub mod Slots
-pub mod TokenForms
-pub mod Words

@@ -1,29 +1,13 @@
-//! Values of the cells of a program, with their trees: copies of them, whether two are the same, and values with other
-//! identities.
+//! What is asked of the values of cells and their trees beside the types themselves: whether two are the same, and values
+//! with other identities.
 #![tactic(auto)]
 
-mod cell;
-mod copy;
-mod iblock;
-mod iexpr;
-mod itype;
-mod kind;
-mod known;
-mod param;
 mod renamed;
 mod same;
-mod token_form;
-mod value;
-mod words;
 
-pub use cell::{Cell, Slot};
-pub use copy::copy_texts;
-pub use iblock::{IBlock, IBody, IDeclarator, IElse, IForStart, IIf, ILet, IStmt, IStmtNode};
-pub use iexpr::{Argument, IExpr};
-pub use itype::IType;
-pub use kind::{Kind, MethodKind};
-pub use known::Known;
-pub use param::Param;
-pub use token_form::{is_comment, is_dotted, is_literal, is_name};
-pub use value::Value;
-pub use words::{Notes, Words};
+pub use renamed::{rename_known, rename_value};
+pub use same::{
+    same_argument, same_block, same_body, same_declarator, same_else, same_expr, same_if, same_let,
+    same_node, same_notes, same_param, same_start, same_statement, same_type, same_value,
+    same_words,
+};

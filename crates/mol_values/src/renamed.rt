@@ -7,9 +7,12 @@ mod iexpr;
 mod itype;
 mod value;
 
-use iexpr::{rename_all, rename_arguments, rename_maybe};
+use iblock::rename_body;
+use iexpr::{rename_all, rename_arguments, rename_expr, rename_maybe};
 use indexmap::IndexMap;
+use itype::rename_type;
 use mol_base::Id;
+pub use value::{rename_known, rename_value};
 
 /// The new identity, where there is one.
 fn name_of(names: &IndexMap<Id, Id>, id: &Id) -> Id

@@ -2,8 +2,8 @@
 use Rattle.std.specs.Prelude.{◌≡◌, true, ◌&&◌, [], ◌∷◌, codes}
 use Rattle.std.proofs.Common.{refl, ap, arith}
 use Rattle.mol_base.specs.Lexical.Names.{keywords, word_literals}
-use Rattle.mol_values.specs.TokenForms.{is_dotted}
-use Rattle.mol_values.proofs.AsciiNames.{ascii-name}
+use Rattle.mol_values_types.specs.TokenForms.{is_dotted}
+use Rattle.mol_values_types.proofs.AsciiNames.{ascii-name}
 
 pub shop_dotted : is_dotted (codes "shop") ≡ true
 unfolding keywords word_literals

@@ -5,15 +5,15 @@ use Rattle.std.specs.List.{list_all}
 use Rattle.mol_base.specs.Limits.{max_items}
 use Rattle.mol_base.specs.Operators.{is_assignment}
 use Rattle.mol_base.specs.declared.ident.Id.{Id}
-use Rattle.mol_table.specs.ExpressionForms.{Shape, plain, target, statement, is_value, are_values, are_arguments}
-use Rattle.mol_table.specs.ExpressionForms.{is_binary, is_expression, is_statement, shape_of, shape_step, argument_step}
-use Rattle.mol_values.specs.TokenForms.{is_literal}
-use Rattle.mol_values.specs.declared.iexpr.Argument.{Argument, fold-Argument}
-use Rattle.mol_values.specs.declared.iexpr.IExpr.{IExpr}
-use Rattle.mol_values.specs.declared.iexpr.IExpr.TheFolds.{fold-roll-IExpr, fold-roll-Argument, map-IExpr}
-use Rattle.mol_values.specs.declared.iexpr.IExpr.TheOpen.{IExpr-F}
-use Rattle.mol_values.specs.declared.iexpr.IExpr.TheVariants as exprs
-use Rattle.mol_values.specs.declared.iexpr.IExpr.TheViews.{roll-IExpr}
+use Rattle.mol_table_rules.specs.ExpressionForms.{Shape, plain, target, statement, is_value, are_values, are_arguments}
+use Rattle.mol_table_rules.specs.ExpressionForms.{is_binary, is_expression, is_statement, shape_of, shape_step, argument_step}
+use Rattle.mol_values_types.specs.TokenForms.{is_literal}
+use Rattle.mol_values_types.specs.declared.iexpr.Argument.{Argument, fold-Argument}
+use Rattle.mol_values_types.specs.declared.iexpr.IExpr.{IExpr}
+use Rattle.mol_values_types.specs.declared.iexpr.IExpr.TheFolds.{fold-roll-IExpr, fold-roll-Argument, map-IExpr}
+use Rattle.mol_values_types.specs.declared.iexpr.IExpr.TheOpen.{IExpr-F}
+use Rattle.mol_values_types.specs.declared.iexpr.IExpr.TheVariants as exprs
+use Rattle.mol_values_types.specs.declared.iexpr.IExpr.TheViews.{roll-IExpr}
 use Rattle.test_op.specs.Given.{is_argument, are_given}
 
 abbrev argument_shape : Argument → Shape

@@ -3,21 +3,21 @@ use Rattle.std.specs.Prelude.{◌≡◌, Bool, true, false, ◌&&◌, ◌||◌, 
 use Rattle.std.proofs.Common.{refl, sym, ap, ◌∙◌, true≢false}
 use Rattle.std.specs.List.{list_all}
 use Rattle.std.proofs.lemmas.List.Folds.{list_all-append}
-use Rattle.mol_table.specs.ExpressionForms.{is_expression, is_statement, are_arguments, shape_of}
-use Rattle.mol_table.specs.StatementForms.{StatementShape, BlockShape, ordinary, super_first, is_let, are_formed, has_super}
-use Rattle.mol_table.specs.StatementForms.{is_body, block_shape, else_step, node_step, block_step, if_step, statement_step}
+use Rattle.mol_table_rules.specs.ExpressionForms.{is_expression, is_statement, are_arguments, shape_of}
+use Rattle.mol_table_rules.specs.StatementForms.{StatementShape, BlockShape, ordinary, super_first, is_let, are_formed, has_super}
+use Rattle.mol_table_rules.specs.StatementForms.{is_body, block_shape, else_step, node_step, block_step, if_step, statement_step}
 use Rattle.mol_base.specs.declared.ident.Id.{Id}
-use Rattle.mol_values.specs.Blocks.{block_of}
-use Rattle.mol_values.specs.declared.iblock.IBody.{IBody}
-use Rattle.mol_values.specs.declared.iblock.IElse.TheFolds.{fold-roll-IStmtNode, fold-roll-IBlock, fold-roll-IStmt}
-use Rattle.mol_values.specs.declared.iblock.IElse.TheOpen.{IStmtNode-F}
-use Rattle.mol_values.specs.declared.iblock.IElse.TheViews.{roll-IStmt}
-use Rattle.mol_values.specs.declared.iblock.ILet.{ILet}
-use Rattle.mol_values.specs.declared.iblock.IStmt.{IStmt}
-use Rattle.mol_values.specs.declared.iblock.IStmtNode.{IStmtNode}
-use Rattle.mol_values.specs.declared.iblock.IStmtNode.TheVariants as nodes
-use Rattle.mol_values.specs.declared.iexpr.Argument.{Argument}
-use Rattle.mol_values.specs.declared.iexpr.IExpr.{IExpr}
+use Rattle.mol_values_types.specs.Blocks.{block_of}
+use Rattle.mol_values_types.specs.declared.iblock.IBody.{IBody}
+use Rattle.mol_values_types.specs.declared.iblock.IElse.TheFolds.{fold-roll-IStmtNode, fold-roll-IBlock, fold-roll-IStmt}
+use Rattle.mol_values_types.specs.declared.iblock.IElse.TheOpen.{IStmtNode-F}
+use Rattle.mol_values_types.specs.declared.iblock.IElse.TheViews.{roll-IStmt}
+use Rattle.mol_values_types.specs.declared.iblock.ILet.{ILet}
+use Rattle.mol_values_types.specs.declared.iblock.IStmt.{IStmt}
+use Rattle.mol_values_types.specs.declared.iblock.IStmtNode.{IStmtNode}
+use Rattle.mol_values_types.specs.declared.iblock.IStmtNode.TheVariants as nodes
+use Rattle.mol_values_types.specs.declared.iexpr.Argument.{Argument}
+use Rattle.mol_values_types.specs.declared.iexpr.IExpr.{IExpr}
 use Rattle.test_op.specs.Given.{are_given, is_first, is_later, are_a_body, node_shape, statement_shape}
 use Rattle.test_op.proofs.Shapes.{and-of, given-shapes}
 

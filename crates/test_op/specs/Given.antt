@@ -2,11 +2,11 @@
 use Rattle.std.specs.Prelude.{Bool, true, ◌&&◌, not, nat_le, List, [], ◌∷◌, length}
 use Rattle.std.specs.List.{list_all}
 use Rattle.mol_base.specs.Limits.{max_items}
-use Rattle.mol_table.specs.ExpressionForms.{is_expression}
-use Rattle.mol_table.specs.StatementForms.{StatementShape, BlockShape, else_step, node_step, block_step, if_step, statement_step}
-use Rattle.mol_values.specs.declared.iblock.IStmt.{IStmt, fold-IStmt}
-use Rattle.mol_values.specs.declared.iblock.IStmtNode.{IStmtNode, fold-IStmtNode}
-use Rattle.mol_values.specs.declared.iexpr.Argument.{Argument}
+use Rattle.mol_table_rules.specs.ExpressionForms.{is_expression}
+use Rattle.mol_table_rules.specs.StatementForms.{StatementShape, BlockShape, else_step, node_step, block_step, if_step, statement_step}
+use Rattle.mol_values_types.specs.declared.iblock.IStmt.{IStmt, fold-IStmt}
+use Rattle.mol_values_types.specs.declared.iblock.IStmtNode.{IStmtNode, fold-IStmtNode}
+use Rattle.mol_values_types.specs.declared.iexpr.Argument.{Argument}
 
 abbrev pub is_argument : Argument → Bool
 is_argument argument = is_expression argument.value

@@ -11,7 +11,7 @@ use crate::texts::{dotted_of, name_of, no_notes, no_words};
 use crate::types::read_parent;
 use mol_base::Id;
 use mol_op::{AddClass, AddConstructor, AddField, AddMethod, AddOverride, Op};
-use mol_values::MethodKind;
+use mol_values_types::MethodKind;
 use std::alloc::Global;
 
 /// The class, its package and name, and its superclass.

@@ -1,7 +1,7 @@
 //! What is printed of a step.
 use mol_base::Id;
 use mol_op::OpFault;
-use mol_values::{Known, MethodKind};
+use mol_values_types::{Known, MethodKind};
 
 /// What a step answers: words, and for some an identity behind them.
 #[derive(Clone, Copy)]

@@ -1,8 +1,8 @@
 //! Bodies, statement by statement.
 ghost use Rattle.std.specs.Prelude.{◌≡◌, true, IsTrue, IfOk};
 ghost use Rattle.std.specs.Option.{option_map_or};
-ghost use Rattle.mol_table.specs.StatementForms.{is_body, is_declarator, ordinary};
-ghost use Rattle.mol_table.specs.TypeForms.{is_type};
+ghost use Rattle.mol_table_rules.specs.StatementForms.{is_body, is_declarator, ordinary};
+ghost use Rattle.mol_table_rules.specs.TypeForms.{is_type};
 ghost use Rattle.test_op.specs.Given.{are_a_body, is_first, is_later, node_shape};
 
 use crate::exprs::{read_action, read_arguments, read_expr, read_init};
@@ -11,7 +11,7 @@ use crate::line::Line;
 use crate::texts::name_of;
 use crate::types::read_type;
 use mol_base::{Id, List};
-use mol_values::{IBlock, IBody, IDeclarator, ILet, IStmt, IStmtNode, IType};
+use mol_values_types::{IBlock, IBody, IDeclarator, ILet, IStmt, IStmtNode, IType};
 use std::alloc::Global;
 
 /// The next body: `block`, a number, so many statements, and `0`, since no comment stands at the end; or `null` where

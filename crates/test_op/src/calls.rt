@@ -1,11 +1,11 @@
 //! Expressions made of others.
 ghost use Rattle.std.specs.Prelude.{◌≡◌, IsTrue, IfOk};
-ghost use Rattle.mol_table.specs.ExpressionForms.{is_binary, is_expression, is_statement};
+ghost use Rattle.mol_table_rules.specs.ExpressionForms.{is_binary, is_expression, is_statement};
 ghost use Rattle.test_op.specs.Given.{are_given};
 
 use crate::fault::CaseFault;
 use mol_base::{Boxed, Id, List, Text};
-use mol_values::{Argument, IExpr};
+use mol_values_types::{Argument, IExpr};
 use std::alloc::Global;
 
 /// What a call by an identity alone calls.

@@ -7,7 +7,7 @@ use crate::params::read_params;
 use crate::texts::{dotted_of, name_of, no_notes, no_words};
 use crate::types::{read_parent, read_result};
 use mol_base::{Boxed, Text};
-use mol_values::{MethodKind, Slot, Value};
+use mol_values_types::{MethodKind, Slot, Value};
 use std::alloc::Global;
 
 /// The slot of this name.

@@ -1,8 +1,8 @@
 //! Expressions, each by its word and what follows it.
 ghost use Rattle.std.specs.Prelude.{true, IsTrue, IfOk};
 ghost use Rattle.std.specs.Option.{option_map_or};
-ghost use Rattle.mol_table.specs.ExpressionForms.{is_binary, is_expression, is_initial, is_statement};
-ghost use Rattle.mol_table.specs.TypeForms.{is_type};
+ghost use Rattle.mol_table_rules.specs.ExpressionForms.{is_binary, is_expression, is_initial, is_statement};
+ghost use Rattle.mol_table_rules.specs.TypeForms.{is_type};
 ghost use Rattle.test_op.specs.Given.{are_given};
 
 use crate::calls::{Called, assignment, binary, boxed, call, call_on};
@@ -11,7 +11,7 @@ use crate::line::Line;
 use crate::texts::literal_of;
 use crate::types::read_type;
 use mol_base::{Boxed, List, MAX_ITEMS, Text, binary_level};
-use mol_values::{Argument, IExpr, IType};
+use mol_values_types::{Argument, IExpr, IType};
 use std::alloc::Global;
 
 /// How many expressions may stand inside each other.

@@ -1,7 +1,7 @@
 //! Lists of parameters.
 ghost use Rattle.std.specs.Prelude.{IsTrue, IfOk};
-ghost use Rattle.mol_table.specs.Forms.{is_param};
-ghost use Rattle.mol_table.specs.TypeForms.{is_result};
+ghost use Rattle.mol_table_rules.specs.Forms.{is_param};
+ghost use Rattle.mol_table_rules.specs.TypeForms.{is_result};
 ghost use Rattle.mol_op.specs.Kept.{may_be_params};
 
 use crate::fault::CaseFault;
@@ -9,7 +9,7 @@ use crate::line::Line;
 use crate::texts::{literal_of, name_of};
 use crate::types::{read_result, read_type};
 use mol_base::{List, MAX_ITEMS};
-use mol_values::{IType, Param};
+use mol_values_types::{IType, Param};
 use std::alloc::Global;
 
 /// The next parameter: its identity, name and type, and its filler, which is a literal here.

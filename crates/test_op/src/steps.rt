@@ -7,7 +7,8 @@ use crate::operations::read_operation;
 use mol_base::Tag;
 use mol_op::{ApplyFault, OpFault, Operation};
 use mol_table::Table;
-use mol_values::{Cell, Value};
+use mol_values::same_value;
+use mol_values_types::{Cell, Value};
 use std::alloc::Global;
 
 /// The table that the steps go through, and the base that was kept.
@@ -146,7 +147,7 @@ fn ask(alloc: Global, table: &Table, line: &mut Line<'_>) -> Result<Answer, Case
 /// Whether a cell holds this value.
 fn held(table: &Table, cell: &Cell, value: &Value) -> Answer {
     match table.get(cell) {
-        Some(held) => Answer::truth(held.same(value)),
+        Some(held) => Answer::truth(same_value(held, value)),
         None => Answer::plain("no such cell"),
     }
 }

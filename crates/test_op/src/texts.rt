@@ -1,10 +1,10 @@
 //! Names and literals; and no modifiers and no comments.
 ghost use Rattle.std.specs.Prelude.{◌≡◌, [], IsTrue, IfOk};
-ghost use Rattle.mol_values.specs.TokenForms.{is_name, is_dotted, is_literal};
+ghost use Rattle.mol_values_types.specs.TokenForms.{is_name, is_dotted, is_literal};
 
 use crate::fault::CaseFault;
 use mol_base::{List, Text, TokenKind, text_kind};
-use mol_values::{Notes, Words};
+use mol_values_types::{Notes, Words};
 use std::alloc::Global;
 
 /// This word, which is a name.

@@ -1,12 +1,12 @@
 //! Types.
 ghost use Rattle.std.specs.Prelude.{true, IsTrue, IfOk};
 ghost use Rattle.std.specs.Option.{option_map_or};
-ghost use Rattle.mol_table.specs.TypeForms.{is_type, is_result, is_class};
+ghost use Rattle.mol_table_rules.specs.TypeForms.{is_type, is_result, is_class};
 
 use crate::fault::CaseFault;
 use crate::line::Line;
 use crate::texts::dotted_of;
-use mol_values::IType;
+use mol_values_types::IType;
 use std::alloc::Global;
 
 /// The type that begins with this word: `int`, `long`, a class by its identity, or one outside as it is written.

@@ -1,44 +1,10 @@
 //! What the parser answers of tokens, as text: places are numbers of tokens, counted from 0.
+use crate::languages::Language;
 use crate::trees::{block_shown, members_shown, type_shown};
 use jav_lex::Token;
-use jav_parse::{ParseFault, parse, parse_body, parse_expr, parse_member, parse_type};
+use jav_parse::{ParseFault, parse_body, parse_member, parse_type};
 use mol_base::OutOfMemory;
 use std::alloc::Global;
-
-/// What the tokens are to be.
-#[derive(Clone, Copy)]
-pub enum Language {
-    Unit,
-    Member,
-    Body,
-    Expr,
-    Type,
-}
-
-impl Language {
-    /// The language of a name.
-    pub fn named(name: &str) -> Option<Language> {
-        match name {
-            "unit" => Some(Language::Unit),
-            "member" => Some(Language::Member),
-            "body" => Some(Language::Body),
-            "expr" => Some(Language::Expr),
-            "type" => Some(Language::Type),
-            _ => None,
-        }
-    }
-
-    /// The fault of these tokens; `None` where they are a tree.
-    fn fault_of(self, alloc: Global, tokens: &[Token]) -> Option<ParseFault> {
-        match self {
-            Language::Unit => parse(alloc, tokens).err(),
-            Language::Member => parse_member(alloc, tokens).err(),
-            Language::Body => parse_body(alloc, tokens).err(),
-            Language::Expr => parse_expr(alloc, tokens).err(),
-            Language::Type => parse_type(alloc, tokens).err(),
-        }
-    }
-}
 
 /// `ok`, or the fault and where it is.
 pub fn answer_of(

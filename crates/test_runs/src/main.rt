@@ -1,18 +1,19 @@
-//! Runs commands over memory, and prints what they leave.
+//! Runs commands over memory, and changes programs, and prints what that leaves.
 //!
 //! Standard input has sections, with two empty lines between two. The first line of each says what its rows are:
 //!
 //! - `runs`: files that are there, and commands over them, some with calls that fail (`run_rows`).
-//! - `bases`: bases that are checked (`base_rows`).
-//! - `large runs`: commands over inputs at the limits of their numbers (`large_rows`).
+//! - `faults`: programs that the entries of logs make and change, of which the faults are printed (`fault_rows`).
 #![tactic(auto)]
 
-mod base_rows;
+mod case;
+mod case_fault;
+mod changed;
 mod escapes;
+mod fault_rows;
 mod given;
-mod large_inputs;
-mod large_rows;
 mod left;
+mod programs;
 mod run_rows;
 mod running;
 
@@ -25,8 +26,7 @@ fn answers(alloc: Global, section: &str) -> Result<String, OutOfMemory> {
     let (name, rows) = section.split_once('\n').unwrap_or((section, ""));
     match name {
         "runs" => run_rows::answers(alloc, rows),
-        "bases" => base_rows::answers(alloc, rows),
-        "large runs" => large_rows::answers(alloc, rows),
+        "faults" => fault_rows::answers(alloc, rows),
         _ => Ok(format!(in alloc; "{name}: no section\n")?),
     }
 }

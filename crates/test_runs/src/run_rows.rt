@@ -9,9 +9,12 @@
 //! - `run WORDS`: a run of these words, in which no call fails.
 //! - `run-failing CALL PUT ROOM WORDS`: a run in which the call on files and the put of these numbers fail, counted from 1 (0 for none),
 //!   and writes have so many bytes of room.
+//! - `run-after COUNT WORDS`: a run after so many writes of other files. What it writes is not printed.
+//!
+//! The words of a run are set apart by spaces, and `''` is an empty one.
 use crate::escapes::bytes_of;
 use crate::given::file;
-use crate::left::{Failing, run_over};
+use crate::left::{Failing, run_after, run_over};
 use mol_base::{File, List, OutOfMemory};
 use std::alloc::Global;
 
@@ -37,6 +40,7 @@ fn answer(alloc: Global, files: &mut String, line: &str) -> Result<String, OutOf
         }
         "run" => outcome(alloc, files.as_str(), line, Failing::NONE, rest),
         "run-failing" => failing_outcome(alloc, files.as_str(), line, rest),
+        "run-after" => later_outcome(alloc, files.as_str(), line, rest),
         _ => Ok(format!(in alloc; "{line}\n")?),
     }
 }
@@ -64,6 +68,19 @@ fn failing_outcome(
         room: room.parse().unwrap_or(0),
     };
     outcome(alloc, files, line, failing, words)
+}
+
+/// What is printed for a run after writes, before the words of which stands how many.
+fn later_outcome(
+    alloc: Global,
+    files: &str,
+    line: &str,
+    rest: &str,
+) -> Result<String, OutOfMemory> {
+    let (count, words) = rest.split_once(' ').unwrap_or((rest, ""));
+    let files = files_of(alloc, files)?;
+    let left = run_after(alloc, &files, count.parse().unwrap_or(0), words)?;
+    Ok(format!(in alloc; "{line}\n{left}")?)
 }
 
 /// What is printed for a run of these words: its line, and what it leaves.

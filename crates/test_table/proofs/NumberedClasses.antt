@@ -8,28 +8,28 @@ use Rattle.std.specs.FinMap.{len, len-empty, len-entries, len-insert}
 use Rattle.std.specs.Ordering.{eq_by_cmp}
 use Rattle.mol_base.specs.Order.{id_cmp, id_cmp-total, id_cmp-IsAntisymmetric}
 use Rattle.mol_base.specs.declared.ident.Id.{Id}
-use Rattle.mol_table.specs.Counting.{passing}
-use Rattle.mol_table.specs.Life.{is_decl_of, is_living_decl, lives}
-use Rattle.mol_table.specs.Mentions.{Mention, mentions}
-use Rattle.mol_table.specs.Program.{Program, Knowns, cell, living_at, nothing, params_at, same_id}
-use Rattle.mol_table.specs.Renumber.{MayRenumber}
-use Rattle.mol_table.specs.Tidy.{bare_constructor, tidied, tidy, tidy_value}
-use Rattle.mol_values.specs.TokenForms.{is_dotted, is_name}
-use Rattle.mol_table.specs.Writes.{AreNew, known_by, with_entities, with_entity, with_value, with_values}
-use Rattle.mol_values.specs.Order.{cell_cmp}
-use Rattle.mol_values.specs.declared.cell.Cell.{Cell}
-use Rattle.mol_values.specs.declared.known.Known.{Known}
-use Rattle.mol_values.specs.declared.known.Known.TheVariants as knowns
-use Rattle.mol_values.specs.declared.param.Param.{Param}
-use Rattle.mol_values.specs.declared.value.Value.{Value}
-use Rattle.mol_values.specs.Slots.{slot_of}
-use Rattle.mol_table.proofs.CellOrder.{cell_cmp-total, cell_cmp-IsAntisymmetric}
-use Rattle.mol_table.proofs.Counts.{each_found, none-some, some-same}
-use Rattle.mol_table.proofs.KnownKeys.{passing-fewer}
-use Rattle.mol_table.proofs.Living.{same_id-own}
-use Rattle.mol_table.proofs.NewClasses.{IsPlainClass, classes-new}
-use Rattle.mol_table.proofs.Programs.{nothing-IsProgram}
-use Rattle.mol_table.proofs.TidyRules.{tidied-at}
+use Rattle.mol_table_rules.specs.Counting.{passing}
+use Rattle.mol_table_rules.specs.Life.{is_decl_of, is_living_decl, lives}
+use Rattle.mol_table_rules.specs.Mentions.{Mention, mentions}
+use Rattle.mol_table_rules.specs.Program.{Program, Knowns, cell, living_at, nothing, params_at, same_id}
+use Rattle.mol_table_rules.specs.Renumber.{MayRenumber}
+use Rattle.mol_table_rules.specs.Tidy.{bare_constructor, tidied, tidy, tidy_value}
+use Rattle.mol_values_types.specs.TokenForms.{is_dotted, is_name}
+use Rattle.mol_table_rules.specs.Writes.{AreNew, known_by, with_entities, with_entity, with_value, with_values}
+use Rattle.mol_values_types.specs.Order.{cell_cmp}
+use Rattle.mol_values_types.specs.declared.cell.Cell.{Cell}
+use Rattle.mol_values_types.specs.declared.known.Known.{Known}
+use Rattle.mol_values_types.specs.declared.known.Known.TheVariants as knowns
+use Rattle.mol_values_types.specs.declared.param.Param.{Param}
+use Rattle.mol_values_types.specs.declared.value.Value.{Value}
+use Rattle.mol_values_types.specs.Slots.{slot_of}
+use Rattle.mol_table_rules.proofs.CellOrder.{cell_cmp-total, cell_cmp-IsAntisymmetric}
+use Rattle.mol_table_rules.proofs.Counts.{each_found, none-some, some-same}
+use Rattle.mol_table_rules.proofs.Counts.{passing-fewer}
+use Rattle.mol_table_rules.proofs.Living.{same_id-own}
+use Rattle.mol_table_rules.proofs.NewClasses.{IsPlainClass, classes-new}
+use Rattle.mol_table_rules.proofs.Programs.{nothing-IsProgram}
+use Rattle.mol_table_rules.proofs.TidyRules.{tidied-at}
 use Rattle.test_table.proofs.Names.{bank_dotted, name_cart, name_desk, name_till, shop_dotted}
 use Rattle.test_table.specs.Classes.{class, class_id, classes}
 

@@ -2,18 +2,18 @@
 use Rattle.std.specs.Prelude.{◌≡◌, ℕ, Bool, true, List, [], ◌∷◌}
 use Rattle.std.proofs.Common.{sym, ap, ◌∙◌}
 use Rattle.mol_base.specs.declared.ident.Id.{Id}
-use Rattle.mol_table.specs.ExpressionForms.{Shape, are_arguments, argument_step, plain, shape_of, shape_step, statement}
-use Rattle.mol_table.specs.StatementForms.{BlockShape, StatementShape, block_step, else_step, if_step, is_body, node_step, statement_step}
-use Rattle.mol_values.specs.TokenForms.{is_literal}
-use Rattle.mol_values.specs.Blocks.{block_of}
-use Rattle.mol_values.specs.declared.iblock.IElse.TheFolds.{fold-roll-IBlock}
-use Rattle.mol_values.specs.declared.iexpr.Argument.{Argument}
-use Rattle.mol_values.specs.declared.iexpr.IExpr.{IExpr}
-use Rattle.mol_values.specs.declared.iexpr.IExpr.TheFolds.{fold-roll-Argument, fold-roll-IExpr, map-IExpr}
-use Rattle.mol_values.specs.declared.iexpr.IExpr.TheOpen.{IExpr-F}
-use Rattle.mol_values.specs.declared.iexpr.IExpr.TheVariants as exprs
-use Rattle.mol_values.specs.declared.iexpr.IExpr.TheViews.{roll-IExpr}
-use Rattle.mol_table.proofs.Kept.{argument_shape}
+use Rattle.mol_table_rules.specs.ExpressionForms.{Shape, are_arguments, argument_step, plain, shape_of, shape_step, statement}
+use Rattle.mol_table_rules.specs.StatementForms.{BlockShape, StatementShape, block_step, else_step, if_step, is_body, node_step, statement_step}
+use Rattle.mol_values_types.specs.TokenForms.{is_literal}
+use Rattle.mol_values_types.specs.Blocks.{block_of}
+use Rattle.mol_values_types.specs.declared.iblock.IElse.TheFolds.{fold-roll-IBlock}
+use Rattle.mol_values_types.specs.declared.iexpr.Argument.{Argument}
+use Rattle.mol_values_types.specs.declared.iexpr.IExpr.{IExpr}
+use Rattle.mol_values_types.specs.declared.iexpr.IExpr.TheFolds.{fold-roll-Argument, fold-roll-IExpr, map-IExpr}
+use Rattle.mol_values_types.specs.declared.iexpr.IExpr.TheOpen.{IExpr-F}
+use Rattle.mol_values_types.specs.declared.iexpr.IExpr.TheVariants as exprs
+use Rattle.mol_values_types.specs.declared.iexpr.IExpr.TheViews.{roll-IExpr}
+use Rattle.mol_table_rules.proofs.Kept.{argument_shape}
 
 rolled : (x : IExpr-F IExpr Argument) → shape_of (roll-IExpr x) ≡ shape_step (map-IExpr _ _ _ _ shape_of argument_shape x)
 rolled x = fold-roll-IExpr Shape Shape shape_step argument_step x

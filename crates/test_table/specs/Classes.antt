@@ -1,9 +1,9 @@
 -- The classes that are numbered anew.
 use Rattle.std.specs.Prelude.{ℕ, true, List, [], ◌∷◌, codes, None}
 use Rattle.mol_base.specs.declared.ident.Id.{Id}
-use Rattle.mol_table.specs.declared.entity.NewEntity.{NewEntity}
-use Rattle.mol_values.specs.declared.kind.Kind.TheVariants as kinds
-use Rattle.mol_values.specs.declared.value.Value.TheVariants as values
+use Rattle.mol_table_rules.specs.declared.entity.NewEntity.{NewEntity}
+use Rattle.mol_values_types.specs.declared.kind.Kind.TheVariants as kinds
+use Rattle.mol_values_types.specs.declared.value.Value.TheVariants as values
 
 abbrev pub class_id : ℕ → Id
 class_id num = record { tag = []; num = num }

@@ -2,7 +2,7 @@
 use crate::fault::CaseFault;
 use mol_base::Id;
 use mol_table::Table;
-use mol_values::{Cell, Kind, Slot, Value};
+use mol_values_types::{Cell, Kind, Slot, Value};
 use std::alloc::Global;
 
 /// These words.

@@ -3,7 +3,8 @@ use crate::fault::CaseFault;
 use indexmap::IndexMap;
 use mol_base::{Id, OutOfMemory};
 use mol_table::Table;
-use mol_values::{Cell, Slot, Value};
+use mol_values::{rename_value, same_value};
+use mol_values_types::{Cell, Slot, Value};
 use std::alloc::Global;
 
 /// The cells that have a value.
@@ -22,7 +23,8 @@ fn cells_of(alloc: Global, table: &Table) -> Result<Vec<Cell>, OutOfMemory> {
 
 /// Whether a value has the form of this slot, and its copy is the same.
 fn is_copied(alloc: Global, slot: Slot, value: &Value) -> Result<bool, OutOfMemory> {
-    Ok(value.slot() == slot && value.copy(alloc)?.same(value))
+    let copy = value.copy(alloc)?;
+    Ok(value.slot() == slot && same_value(&copy, value))
 }
 
 /// How many cells there are, and in how many of them the value is of the slot and its copy is the same.
@@ -46,6 +48,12 @@ fn single_name(alloc: Global, first: Id, second: Id) -> Result<IndexMap<Id, Id>,
     Ok(names)
 }
 
+/// Whether a value is another one with these names.
+fn is_other(alloc: Global, names: &IndexMap<Id, Id>, value: &Value) -> Result<bool, OutOfMemory> {
+    let renamed = rename_value(alloc, names, value)?;
+    Ok(!same_value(&renamed, value))
+}
+
 /// How many values are other ones with the second identity in place of the first one.
 pub fn renamed_text(
     alloc: Global,
@@ -58,7 +66,7 @@ pub fn renamed_text(
     let cells = cells_of(alloc, table)?;
     for cell in &cells {
         if let Some(value) = table.get(cell) {
-            if !value.renamed(alloc, &names)?.same(value) {
+            if is_other(alloc, &names, value)? {
                 changed = changed.saturating_add(1);
             }
         }

@@ -4,7 +4,7 @@ use crate::forms::name_of;
 use mol_base::{Id, List, Tag};
 use mol_op::{ApplyFault, ChangeSignature, Delete, Operation, RenameMethod};
 use mol_table::Table;
-use mol_values::IType;
+use mol_values_types::IType;
 use std::alloc::Global;
 
 /// Applies an operation of the base.

@@ -1,12 +1,14 @@
 //! Classes, and the same numbered as those of a base are.
-ghost use Rattle.std.specs.Prelude.{◌≡◌, IfOk};
-ghost use Rattle.mol_table.specs.Program.{nothing};
-ghost use Rattle.mol_table.specs.Writes.{with_entities};
+ghost use Rattle.std.specs.Prelude.{◌≡◌, ◌++◌, [], ◌∷◌, IfOk, OnOk};
+ghost use Rattle.mol_table_rules.specs.Program.{nothing};
+ghost use Rattle.mol_table_rules.specs.Writes.{with_entities};
 ghost use Rattle.test_table.specs.Classes as spec;
 
 use mol_base::{Id, List, OutOfMemory, Tag, Text};
-use mol_table::{NewEntity, Table};
-use mol_values::{Kind, Notes, Value, Words};
+use mol_table::Table;
+use mol_table_numbers::renumber;
+use mol_table_rules::NewEntity;
+use mol_values_types::{Kind, Notes, Value, Words};
 use std::alloc::Global;
 
 /// The identity of the base with this number.
@@ -46,14 +48,36 @@ fn class(alloc: Global, num: u32, in_package: &str, name: &str) -> Result<NewEnt
     })
 }
 
-/// `:7` shop.Till, `:4` shop.Cart and `:9` bank.Desk.
+/// Adds a living class to a list.
+fn add_class(
+    alloc: Global,
+    entities: &mut List<NewEntity>,
+    num: u32,
+    in_package: &str,
+    name: &str,
+) -> Result<(), OutOfMemory>
+    ensures { OnOk result (entities.new ≡ entities.old ++ (spec.class num in_package.now name.now ∷ [])) }
+{
+    let class = class(alloc, num, in_package, name)?;
+    entities.add(class)
+}
+
+/// Puts `:7` shop.Till, `:4` shop.Cart and `:9` bank.Desk into an empty list.
+fn add_classes(alloc: Global, entities: &mut List<NewEntity>) -> Result<(), OutOfMemory>
+    requires { entities.old ≡ [] }
+    ensures { OnOk result (entities.new ≡ spec.classes) }
+{
+    add_class(alloc, entities, 7, "shop", "Till")?;
+    add_class(alloc, entities, 4, "shop", "Cart")?;
+    add_class(alloc, entities, 9, "bank", "Desk")
+}
+
+/// These classes.
 fn classes(alloc: Global) -> Result<List<NewEntity>, OutOfMemory>
     ensures { IfOk result (λ entities. entities ≡ spec.classes) }
 {
     let mut entities = List::new(alloc);
-    entities.add(class(alloc, 7, "shop", "Till")?)?;
-    entities.add(class(alloc, 4, "shop", "Cart")?)?;
-    entities.add(class(alloc, 9, "bank", "Desk")?)?;
+    add_classes(alloc, &mut entities)?;
     Ok(entities)
 }
 
@@ -68,5 +92,5 @@ pub fn recorded_classes(alloc: Global) -> Result<Table, OutOfMemory>
 
 /// The table of these classes, numbered as a base is.
 pub fn numbered_classes(alloc: Global) -> Result<Table, OutOfMemory> {
-    recorded_classes(alloc)?.renumber(alloc)
+    renumber(alloc, &recorded_classes(alloc)?)
 }

@@ -1,13 +1,15 @@
 //! Parts of operations, in their forms.
-ghost use Rattle.std.specs.Prelude.{◌≡◌, [], IsTrue, IfOk};
+ghost use Rattle.std.specs.Prelude.{◌≡◌, true, [], IsTrue, IfOk};
+ghost use Rattle.std.specs.Option.{option_map_or};
 ghost use Rattle.mol_op.specs.Kept.{may_be_params};
-ghost use Rattle.mol_table.specs.StatementForms.{is_body};
-ghost use Rattle.mol_values.specs.TokenForms.{is_name, is_dotted, is_literal};
-ghost use Rattle.mol_table.specs.TypeForms.{is_type};
+ghost use Rattle.mol_table_rules.specs.StatementForms.{is_body};
+ghost use Rattle.mol_values_types.specs.TokenForms.{is_name, is_dotted, is_literal};
+ghost use Rattle.mol_table_rules.specs.Forms.{is_param};
+ghost use Rattle.mol_table_rules.specs.TypeForms.{is_class, is_type};
 
 use crate::fault::CaseFault;
 use mol_base::{Id, List, OutOfMemory, Tag, Text, TokenKind, text_kind};
-use mol_values::{IBlock, IBody, IType, Notes, Param, Words};
+use mol_values_types::{IBlock, IBody, IType, Notes, Param, Words};
 use std::alloc::Global;
 
 /// The identity of the base with this number.
@@ -54,6 +56,28 @@ pub fn class_type(num: u32) -> IType
     IType::Class(base_id(num))
 }
 
+/// A class of the base as a superclass, or none.
+#[tactic(auto, using(crate::proofs::Types::class_is_class))]
+pub fn superclass(num: Option<u32>) -> Option<IType>
+    ensures { IsTrue (option_map_or is_class result true) }
+{
+    match num {
+        Some(num) => Some(IType::Class(base_id(num))),
+        None => None,
+    }
+}
+
+/// The type of a parameter: a class of the base, or `int`.
+#[tactic(auto, using(crate::proofs::Types::int_type))]
+fn param_type(class: Option<u32>) -> IType
+    ensures { IsTrue (is_type result) }
+{
+    match class {
+        Some(num) => class_type(num),
+        None => IType::Int,
+    }
+}
+
 /// No modifiers.
 pub fn no_words(alloc: Global) -> Words
     ensures { result ≡ record { texts = [] } }
@@ -74,26 +98,36 @@ pub fn no_notes(alloc: Global) -> Notes
     }
 }
 
-/// A parameter as a list of its own.
+/// A parameter as a list of its own. Its type is a class of the base, or `int`.
 pub fn single_param(
     alloc: Global,
     id: Id,
     name: &str,
-    ty: IType,
+    class: Option<u32>,
     filler: &str,
 ) -> Result<List<Param>, CaseFault>
-    requires { IsTrue (is_type ty) }
     ensures { IfOk result (λ list. IsTrue (may_be_params list)) }
 {
     let name = name_of(alloc, name)?;
     let filler = literal_of(alloc, filler)?;
+    listed(
+        alloc,
+        Param {
+            id,
+            name,
+            ty: param_type(class),
+            filler,
+        },
+    )
+}
+
+/// A list of one parameter.
+fn listed(alloc: Global, param: Param) -> Result<List<Param>, CaseFault>
+    requires { IsTrue (is_param param) }
+    ensures { IfOk result (λ list. IsTrue (may_be_params list)) }
+{
     let mut list = List::new(alloc);
-    list.add(Param {
-        id,
-        name,
-        ty,
-        filler,
-    })?;
+    list.add(param)?;
     Ok(list)
 }
 

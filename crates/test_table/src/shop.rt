@@ -2,39 +2,36 @@
 //! `:9` tax, which `:5` declares in Cart, with the parameter `:10`; the method `:11` label, which `:6` declares in Desk and
 //! `:7` in Till; the constructor `:12` of Till, which `:8` declares, with the parameter `:13`; and the field `:4` of Cart, whose
 //! first value is a creation by this constructor.
-ghost use Rattle.std.specs.Prelude.{true, IsTrue, IfOk};
-ghost use Rattle.std.specs.Option.{option_map_or};
-ghost use Rattle.mol_table.specs.ExpressionForms.{is_initial};
-ghost use Rattle.mol_table.specs.TypeForms.{is_class};
+ghost use Rattle.std.specs.Prelude.{IsTrue, IfOk};
+ghost use Rattle.mol_table_rules.specs.ExpressionForms.{is_initial};
 
 use crate::changes::apply;
 use crate::fault::CaseFault;
 use crate::forms::{
-    base_id, class_type, empty_body, literal_of, name_of, no_notes, no_words, package, single_param,
+    base_id, class_type, empty_body, literal_of, name_of, no_notes, no_words, package,
+    single_param, superclass,
 };
 use mol_base::List;
 use mol_op::{AddClass, AddConstructor, AddField, AddMethod, AddOverride};
 use mol_table::Table;
-use mol_values::{Argument, IExpr, IType, MethodKind};
+use mol_values_types::{Argument, IExpr, IType, MethodKind};
 use std::alloc::Global;
 
-/// Adds a class.
+/// Adds a class, below another one of the base or none.
 fn add_class(
     alloc: Global,
     table: &mut Table,
     num: u32,
     name: &str,
-    parent: Option<IType>,
-) -> Result<(), CaseFault>
-    requires { IsTrue (option_map_or is_class parent true) }
-{
+    parent: Option<u32>,
+) -> Result<(), CaseFault> {
     let package = package(alloc)?;
     let name = name_of(alloc, name)?;
     let operation = AddClass {
         class: base_id(num),
         package,
         name,
-        parent,
+        parent: superclass(parent),
         words: no_words(alloc),
         notes: no_notes(alloc),
     };
@@ -42,18 +39,17 @@ fn add_class(
 }
 
 /// Adds the three classes.
-#[tactic(auto, using(crate::proofs::Types::class_is_class))]
 fn add_classes(alloc: Global, table: &mut Table) -> Result<(), CaseFault> {
     add_class(alloc, table, 1, "Cart", None)?;
     add_class(alloc, table, 2, "Desk", None)?;
-    add_class(alloc, table, 3, "Till", Some(IType::Class(base_id(2))))
+    add_class(alloc, table, 3, "Till", Some(2))
 }
 
 /// Adds `static void tax(int amount) { }`.
-#[tactic(auto, using(crate::proofs::Types::int_type, crate::proofs::Types::void_result))]
+#[tactic(auto, using(crate::proofs::Types::void_result))]
 fn add_tax(alloc: Global, table: &mut Table) -> Result<(), CaseFault> {
     let name = name_of(alloc, "tax")?;
-    let params = single_param(alloc, base_id(10), "amount", IType::Int, "0")?;
+    let params = single_param(alloc, base_id(10), "amount", None, "0")?;
     let operation = AddMethod {
         method: base_id(9),
         decl: base_id(5),
@@ -103,7 +99,7 @@ fn override_label(alloc: Global, table: &mut Table) -> Result<(), CaseFault> {
 
 /// Adds `Till(Desk desk) { }`.
 fn add_constructor(alloc: Global, table: &mut Table) -> Result<(), CaseFault> {
-    let params = single_param(alloc, base_id(13), "desk", class_type(2), "null")?;
+    let params = single_param(alloc, base_id(13), "desk", Some(2), "null")?;
     let operation = AddConstructor {
         method: base_id(12),
         decl: base_id(8),

@@ -7,6 +7,7 @@ use crate::fault::CaseFault;
 use crate::shop::shop;
 use mol_base::Id;
 use mol_table::Table;
+use mol_table_numbers::same;
 use std::alloc::Global;
 
 /// The table that the steps go through, and the copy that was kept of it.
@@ -45,7 +46,7 @@ fn look_at(alloc: Global, table: &Table, step: &str, id: Id) -> Result<String, C
 /// What a look at the table answers.
 fn look(alloc: Global, tables: &Tables, step: &str, words: &str) -> Result<String, CaseFault> {
     match step {
-        "same" => truth(alloc, tables.table.same(&tables.kept)),
+        "same" => truth(alloc, same(&tables.table, &tables.kept)),
         "ids" => ids_text(alloc, tables.table.ids()),
         "copied" => copied_text(alloc, &tables.table),
         "renamed" => {
@@ -56,14 +57,23 @@ fn look(alloc: Global, tables: &Tables, step: &str, words: &str) -> Result<Strin
     }
 }
 
+/// A table that is made anew, or the tidied one.
+fn made(alloc: Global, table: &Table, step: &str) -> Result<Table, CaseFault> {
+    match step {
+        "shop" => shop(alloc),
+        "classes" => Ok(recorded_classes(alloc)?),
+        "numbered" => Ok(numbered_classes(alloc)?),
+        _ => Ok(table.tidy(alloc)?),
+    }
+}
+
 /// The answer to a line.
 pub fn answer_of(alloc: Global, tables: &mut Tables, line: &str) -> Result<String, CaseFault> {
     let (step, words) = line.split_once(' ').unwrap_or((line, ""));
     match step {
-        "shop" => tables.table = shop(alloc)?,
-        "classes" => tables.table = recorded_classes(alloc)?,
-        "numbered" => tables.table = numbered_classes(alloc)?,
-        "tidy" => tables.table = tables.table.tidy(alloc)?,
+        "shop" | "classes" | "numbered" | "tidy" => {
+            tables.table = made(alloc, &tables.table, step)?;
+        }
         "keep" => tables.kept = tables.table.copy(alloc)?,
         "delete" | "rename" | "unlist" => {
             let (first, name) = words.split_once(' ').unwrap_or((words, ""));

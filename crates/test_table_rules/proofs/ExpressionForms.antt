@@ -2,18 +2,18 @@
 use Rattle.std.specs.Prelude.{◌≡◌, ℕ, Bool, true, false, ◌&&◌, ◌||◌, not, nat_le, List, [], ◌∷◌, length, codes}
 use Rattle.std.proofs.Common.{sym, ap, ◌∙◌}
 use Rattle.mol_base.specs.declared.ident.Id.{Id}
-use Rattle.mol_table.specs.ExpressionForms.{Shape, are_arguments, are_values, is_expression, is_initial, is_value}
-use Rattle.mol_table.specs.ExpressionForms.{argument_step, plain, shape_of, shape_step, statement, target}
-use Rattle.mol_values.specs.TokenForms.{is_literal, is_name}
-use Rattle.mol_table.specs.TypeForms.{is_array, is_type}
-use Rattle.mol_values.specs.declared.iexpr.Argument.{Argument}
-use Rattle.mol_values.specs.declared.iexpr.IExpr.{IExpr}
-use Rattle.mol_values.specs.declared.iexpr.IExpr.TheFolds.{fold-roll-IExpr, map-IExpr}
-use Rattle.mol_values.specs.declared.iexpr.IExpr.TheOpen.{IExpr-F}
-use Rattle.mol_values.specs.declared.iexpr.IExpr.TheVariants as exprs
-use Rattle.mol_values.specs.declared.iexpr.IExpr.TheViews.{roll-IExpr}
-use Rattle.mol_values.specs.declared.itype.IType.TheVariants as types
-use Rattle.mol_table.proofs.Kept.{argument_shape}
+use Rattle.mol_table_rules.specs.ExpressionForms.{Shape, are_arguments, are_values, is_expression, is_initial, is_value}
+use Rattle.mol_table_rules.specs.ExpressionForms.{argument_step, plain, shape_of, shape_step, statement, target}
+use Rattle.mol_values_types.specs.TokenForms.{is_literal, is_name}
+use Rattle.mol_table_rules.specs.TypeForms.{is_array, is_type}
+use Rattle.mol_values_types.specs.declared.iexpr.Argument.{Argument}
+use Rattle.mol_values_types.specs.declared.iexpr.IExpr.{IExpr}
+use Rattle.mol_values_types.specs.declared.iexpr.IExpr.TheFolds.{fold-roll-IExpr, map-IExpr}
+use Rattle.mol_values_types.specs.declared.iexpr.IExpr.TheOpen.{IExpr-F}
+use Rattle.mol_values_types.specs.declared.iexpr.IExpr.TheVariants as exprs
+use Rattle.mol_values_types.specs.declared.iexpr.IExpr.TheViews.{roll-IExpr}
+use Rattle.mol_values_types.specs.declared.itype.IType.TheVariants as types
+use Rattle.mol_table_rules.proofs.Kept.{argument_shape}
 use Rattle.test_table_rules.proofs.Given.{never, never-then}
 use Rattle.test_table_rules.proofs.TokenForms.{no_dotted, no_literal, no_name}
 use Rattle.test_table_rules.proofs.TypeForms.{an_array, int_array, int_type, no_array, no_outside, no_void}

@@ -3,16 +3,16 @@ use Rattle.std.specs.Prelude.{◌≡◌, ℕ, true, false, ◌&&◌, ◌||◌, n
 use Rattle.std.proofs.Common.{refl, ap, ◌∙◌}
 use Rattle.std.specs.List.{list_all}
 use Rattle.mol_base.specs.declared.ident.Id.{Id}
-use Rattle.mol_table.specs.Forms.{are_params, differ, is_formed, is_param}
-use Rattle.mol_values.specs.TokenForms.{is_filler, is_name}
-use Rattle.mol_table.specs.TypeForms.{is_type}
-use Rattle.mol_values.specs.declared.itype.IType.{IType}
-use Rattle.mol_values.specs.declared.itype.IType.TheVariants as types
-use Rattle.mol_values.specs.declared.kind.MethodKind.TheVariants.{Instance, Constructor}
-use Rattle.mol_values.specs.declared.known.Known.TheVariants as knowns
-use Rattle.mol_values.specs.declared.param.Param.{Param}
-use Rattle.mol_values.specs.declared.value.Value.TheVariants as values
-use Rattle.mol_table.proofs.Living.{same_id-own}
+use Rattle.mol_table_rules.specs.Forms.{are_params, differ, is_formed, is_param}
+use Rattle.mol_values_types.specs.TokenForms.{is_filler, is_name}
+use Rattle.mol_table_rules.specs.TypeForms.{is_type}
+use Rattle.mol_values_types.specs.declared.itype.IType.{IType}
+use Rattle.mol_values_types.specs.declared.itype.IType.TheVariants as types
+use Rattle.mol_values_types.specs.declared.kind.MethodKind.TheVariants.{Instance, Constructor}
+use Rattle.mol_values_types.specs.declared.known.Known.TheVariants as knowns
+use Rattle.mol_values_types.specs.declared.param.Param.{Param}
+use Rattle.mol_values_types.specs.declared.value.Value.TheVariants as values
+use Rattle.mol_table_rules.proofs.Living.{same_id-own}
 use Rattle.test_table_rules.proofs.Given.{base, never, never-then, param}
 use Rattle.test_table_rules.proofs.TokenForms.{a_comment, no_comment, no_dotted, no_filler, no_name}
 use Rattle.test_table_rules.proofs.TypeForms.{class_of_the_program, int_result, int_type, no_class, no_void, no_void_int, void_result}

@@ -4,29 +4,29 @@ use Rattle.std.proofs.Common.{refl, sym, ap, ◌∙◌, arith, true≢false}
 use Rattle.std.specs.FinMap.{get}
 use Rattle.std.specs.List.{list_all}
 use Rattle.mol_base.specs.declared.ident.Id.{Id}
-use Rattle.mol_table.specs.Mentions.{Mention, Role, a_called_method, a_class, a_constructor, a_field, a_listed_param, a_method}
-use Rattle.mol_table.specs.Mentions.{a_param, a_static_method, argument_step, expr_mentions, expr_step, named, type_mentions, type_step}
-use Rattle.mol_table.specs.Program.{Knowns, Program, value_at}
-use Rattle.mol_table.specs.Rules.{IsProgram, fills, is_declared, refers_rightly}
-use Rattle.mol_values.specs.Words.{is_declaration}
-use Rattle.mol_values.specs.Slots.{has_slot}
-use Rattle.mol_values.specs.declared.cell.Slot.{Slot}
-use Rattle.mol_values.specs.declared.cell.Slot.TheVariants as slots
-use Rattle.mol_values.specs.declared.iblock.IBody.{IBody}
-use Rattle.mol_values.specs.declared.iexpr.Argument.{Argument}
-use Rattle.mol_values.specs.declared.iexpr.IExpr.{IExpr}
-use Rattle.mol_values.specs.declared.iexpr.IExpr.TheFolds.{fold-roll-IExpr, map-IExpr}
-use Rattle.mol_values.specs.declared.iexpr.IExpr.TheOpen.{IExpr-F}
-use Rattle.mol_values.specs.declared.iexpr.IExpr.TheVariants as exprs
-use Rattle.mol_values.specs.declared.iexpr.IExpr.TheViews.{roll-IExpr}
-use Rattle.mol_values.specs.declared.itype.IType.TheOpen.{IType-F}
-use Rattle.mol_values.specs.declared.itype.IType.TheVariants as types
-use Rattle.mol_values.specs.declared.kind.MethodKind.TheVariants.{Instance, Static, Constructor}
-use Rattle.mol_values.specs.declared.known.Known.{Known}
-use Rattle.mol_values.specs.declared.known.Known.TheVariants as knowns
-use Rattle.mol_values.specs.declared.value.Value.{Value}
-use Rattle.mol_values.specs.declared.value.Value.TheVariants as values
-use Rattle.mol_table.proofs.Kept.{argument_mentions}
+use Rattle.mol_table_rules.specs.Mentions.{Mention, Role, a_called_method, a_class, a_constructor, a_field, a_listed_param, a_method}
+use Rattle.mol_table_rules.specs.Mentions.{a_param, a_static_method, argument_step, expr_mentions, expr_step, named, type_mentions, type_step}
+use Rattle.mol_table_rules.specs.Program.{Knowns, Program, value_at}
+use Rattle.mol_table_rules.specs.Rules.{IsProgram, fills, is_declared, refers_rightly}
+use Rattle.mol_values_types.specs.Words.{is_declaration}
+use Rattle.mol_values_types.specs.Slots.{has_slot}
+use Rattle.mol_values_types.specs.declared.cell.Slot.{Slot}
+use Rattle.mol_values_types.specs.declared.cell.Slot.TheVariants as slots
+use Rattle.mol_values_types.specs.declared.iblock.IBody.{IBody}
+use Rattle.mol_values_types.specs.declared.iexpr.Argument.{Argument}
+use Rattle.mol_values_types.specs.declared.iexpr.IExpr.{IExpr}
+use Rattle.mol_values_types.specs.declared.iexpr.IExpr.TheFolds.{fold-roll-IExpr, map-IExpr}
+use Rattle.mol_values_types.specs.declared.iexpr.IExpr.TheOpen.{IExpr-F}
+use Rattle.mol_values_types.specs.declared.iexpr.IExpr.TheVariants as exprs
+use Rattle.mol_values_types.specs.declared.iexpr.IExpr.TheViews.{roll-IExpr}
+use Rattle.mol_values_types.specs.declared.itype.IType.TheOpen.{IType-F}
+use Rattle.mol_values_types.specs.declared.itype.IType.TheVariants as types
+use Rattle.mol_values_types.specs.declared.kind.MethodKind.TheVariants.{Instance, Static, Constructor}
+use Rattle.mol_values_types.specs.declared.known.Known.{Known}
+use Rattle.mol_values_types.specs.declared.known.Known.TheVariants as knowns
+use Rattle.mol_values_types.specs.declared.value.Value.{Value}
+use Rattle.mol_values_types.specs.declared.value.Value.TheVariants as values
+use Rattle.mol_table_rules.proofs.Kept.{argument_mentions}
 use Rattle.test_table_rules.proofs.Given.{base, param}
 use Rattle.test_table_rules.proofs.TokenForms.{no_name}
 use Rattle.test_table_rules.proofs.TypeForms.{folded}

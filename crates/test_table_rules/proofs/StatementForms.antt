@@ -3,29 +3,29 @@ use Rattle.std.specs.Prelude.{◌≡◌, Bool, true, false, ◌&&◌, ◌||◌, 
 use Rattle.std.proofs.Common.{refl, sym, ap, ◌∙◌}
 use Rattle.std.specs.List.{list_all}
 use Rattle.mol_base.specs.declared.ident.Id.{Id}
-use Rattle.mol_table.specs.ExpressionForms.{Shape, is_statement, is_value, plain}
-use Rattle.mol_table.specs.Forms.{is_formed}
-use Rattle.mol_table.specs.StatementForms.{BlockShape, StatementShape, are_formed, block_shape, is_declarator, is_let, is_start}
-use Rattle.mol_table.specs.StatementForms.{block_step, else_step, if_step, node_step, statement_step}
-use Rattle.mol_values.specs.TokenForms.{is_literal}
-use Rattle.mol_table.specs.TypeForms.{is_type}
-use Rattle.mol_values.specs.Blocks.{block_of}
-use Rattle.mol_values.specs.declared.iblock.IBlock.{IBlock}
-use Rattle.mol_values.specs.declared.iblock.IDeclarator.{IDeclarator}
-use Rattle.mol_values.specs.declared.iblock.IElse.{IElse}
-use Rattle.mol_values.specs.declared.iblock.IElse.TheFolds.{fold-roll-IBlock, fold-roll-IStmt, fold-roll-IStmtNode, map-IStmtNode}
-use Rattle.mol_values.specs.declared.iblock.IElse.TheOpen.{IStmtNode-F}
-use Rattle.mol_values.specs.declared.iblock.IElse.TheViews.{roll-IStmt, roll-IStmtNode}
-use Rattle.mol_values.specs.declared.iblock.IForStart.TheVariants as starts
-use Rattle.mol_values.specs.declared.iblock.IIf.{IIf}
-use Rattle.mol_values.specs.declared.iblock.IStmt.{IStmt}
-use Rattle.mol_values.specs.declared.iblock.IStmtNode.{IStmtNode}
-use Rattle.mol_values.specs.declared.iblock.IStmtNode.TheVariants as nodes
-use Rattle.mol_values.specs.declared.iexpr.IExpr.TheVariants as exprs
-use Rattle.mol_values.specs.declared.itype.IType.TheVariants as types
-use Rattle.mol_values.specs.declared.known.Known.TheVariants as knowns
-use Rattle.mol_values.specs.declared.value.Value.TheVariants as values
-use Rattle.mol_table.proofs.KeptBlocks.{else_form, if_form, node_shape, statement_shape}
+use Rattle.mol_table_rules.specs.ExpressionForms.{Shape, is_statement, is_value, plain}
+use Rattle.mol_table_rules.specs.Forms.{is_formed}
+use Rattle.mol_table_rules.specs.StatementForms.{BlockShape, StatementShape, are_formed, block_shape, is_declarator, is_let, is_start}
+use Rattle.mol_table_rules.specs.StatementForms.{block_step, else_step, if_step, node_step, statement_step}
+use Rattle.mol_values_types.specs.TokenForms.{is_literal}
+use Rattle.mol_table_rules.specs.TypeForms.{is_type}
+use Rattle.mol_values_types.specs.Blocks.{block_of}
+use Rattle.mol_values_types.specs.declared.iblock.IBlock.{IBlock}
+use Rattle.mol_values_types.specs.declared.iblock.IDeclarator.{IDeclarator}
+use Rattle.mol_values_types.specs.declared.iblock.IElse.{IElse}
+use Rattle.mol_values_types.specs.declared.iblock.IElse.TheFolds.{fold-roll-IBlock, fold-roll-IStmt, fold-roll-IStmtNode, map-IStmtNode}
+use Rattle.mol_values_types.specs.declared.iblock.IElse.TheOpen.{IStmtNode-F}
+use Rattle.mol_values_types.specs.declared.iblock.IElse.TheViews.{roll-IStmt, roll-IStmtNode}
+use Rattle.mol_values_types.specs.declared.iblock.IForStart.TheVariants as starts
+use Rattle.mol_values_types.specs.declared.iblock.IIf.{IIf}
+use Rattle.mol_values_types.specs.declared.iblock.IStmt.{IStmt}
+use Rattle.mol_values_types.specs.declared.iblock.IStmtNode.{IStmtNode}
+use Rattle.mol_values_types.specs.declared.iblock.IStmtNode.TheVariants as nodes
+use Rattle.mol_values_types.specs.declared.iexpr.IExpr.TheVariants as exprs
+use Rattle.mol_values_types.specs.declared.itype.IType.TheVariants as types
+use Rattle.mol_values_types.specs.declared.known.Known.TheVariants as knowns
+use Rattle.mol_values_types.specs.declared.value.Value.TheVariants as values
+use Rattle.mol_table_rules.proofs.KeptBlocks.{else_form, if_form, node_shape, statement_shape}
 use Rattle.test_table_rules.proofs.ExpressionForms.{braces_elsewhere, shape-Lit}
 use Rattle.test_table_rules.proofs.Given.{base, never, never-then}
 use Rattle.test_table_rules.proofs.TokenForms.{no_comment, no_name}

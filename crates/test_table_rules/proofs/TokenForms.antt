@@ -16,7 +16,7 @@ use Rattle.mol_base.specs.Lexical.Symbols.{symbol}
 use Rattle.mol_base.specs.Lexical.Tokens.{IsToken}
 use Rattle.mol_base.specs.declared.token_kind.TokenKind.{TokenKind}
 use Rattle.mol_base.specs.declared.token_kind.TokenKind.TheVariants.{Keyword}
-use Rattle.mol_values.specs.TokenForms.{is_comment, is_dotted, is_filler, is_literal, is_name, is_number, is_word_kind}
+use Rattle.mol_values_types.specs.TokenForms.{is_comment, is_dotted, is_filler, is_literal, is_name, is_number, is_word_kind}
 
 a_literal : is_literal (codes "2") ≡ true
 unfolding token_kind is_clean front number is_float is_integer is_digits is_utf8 chars lib.Utf8.encode

@@ -2,14 +2,14 @@
 use Rattle.std.specs.Prelude.{◌≡◌, ℕ, ◌+◌, Bool, true, false, ◌&&◌, ◌||◌, nat_le, List, []}
 use Rattle.std.proofs.Common.{refl, sym, ap, ◌∙◌}
 use Rattle.mol_base.specs.declared.ident.Id.{Id}
-use Rattle.mol_values.specs.TokenForms.{is_dotted, is_empty}
-use Rattle.mol_table.specs.TypeForms.{array_step, class_step, dimensions, dimensions_step, is_array, is_class}
-use Rattle.mol_table.specs.TypeForms.{is_outside_class, is_result, is_type, is_void, named_step, outside_step, void_step}
-use Rattle.mol_values.specs.declared.itype.IType.{IType, fold-IType}
-use Rattle.mol_values.specs.declared.itype.IType.TheFolds.{fold-roll-IType, map-IType}
-use Rattle.mol_values.specs.declared.itype.IType.TheOpen.{IType-F}
-use Rattle.mol_values.specs.declared.itype.IType.TheVariants as types
-use Rattle.mol_values.specs.declared.itype.IType.TheViews.{roll-IType}
+use Rattle.mol_values_types.specs.TokenForms.{is_dotted, is_empty}
+use Rattle.mol_table_rules.specs.TypeForms.{array_step, class_step, dimensions, dimensions_step, is_array, is_class}
+use Rattle.mol_table_rules.specs.TypeForms.{is_outside_class, is_result, is_type, is_void, named_step, outside_step, void_step}
+use Rattle.mol_values_types.specs.declared.itype.IType.{IType, fold-IType}
+use Rattle.mol_values_types.specs.declared.itype.IType.TheFolds.{fold-roll-IType, map-IType}
+use Rattle.mol_values_types.specs.declared.itype.IType.TheOpen.{IType-F}
+use Rattle.mol_values_types.specs.declared.itype.IType.TheVariants as types
+use Rattle.mol_values_types.specs.declared.itype.IType.TheViews.{roll-IType}
 use Rattle.test_table_rules.proofs.Given.{both, never}
 use Rattle.test_table_rules.proofs.TokenForms.{no_dotted}
 

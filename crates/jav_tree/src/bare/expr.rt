@@ -2,7 +2,7 @@ ghost use Rattle.std.specs.Prelude.{◌≡◌, IfOk, map, option_map};
 ghost use Rattle.jav_tree.specs.Parens.{expr_without_parens, expr_node_without_parens};
 
 use crate::expr::{Expr, ExprNode};
-use mol_base::{Boxed, List, OutOfMemory};
+use mol_base::{Boxed, List, OutOfMemory, both};
 use std::alloc::Global;
 
 impl Expr {
@@ -21,85 +21,99 @@ impl ExprNode {
         ensures { IfOk result (λ bare. bare ≡ expr_node_without_parens self.now at) }
     {
         match self {
-            ExprNode::Lit(text) => Ok(placed(at, ExprNode::Lit(text.copy(alloc)?))),
+            ExprNode::Lit(text) => match text.copy(alloc) {
+                Ok(text) => Ok(placed(at, ExprNode::Lit(text))),
+                Err(want) => Err(want),
+            },
             ExprNode::This => Ok(placed(at, ExprNode::This)),
-            ExprNode::Name(text) => Ok(placed(at, ExprNode::Name(text.copy(alloc)?))),
-            ExprNode::Dot(e, name) => Ok(placed(
-                at,
-                ExprNode::Dot(bare_boxed(alloc, e.get())?, name.copy(alloc)?),
-            )),
-            ExprNode::Call(on, name, args) => Ok(placed(
-                at,
-                ExprNode::Call(
-                    bare_on(alloc, on)?,
-                    name.copy(alloc)?,
-                    bare_all(alloc, args.items())?,
-                ),
-            )),
-            ExprNode::SuperCall(name, args) => Ok(placed(
-                at,
-                ExprNode::SuperCall(name.copy(alloc)?, bare_all(alloc, args.items())?),
-            )),
-            ExprNode::New(ty, args) => Ok(placed(
-                at,
-                ExprNode::New(ty.copy(alloc)?, bare_all(alloc, args.items())?),
-            )),
-            ExprNode::NewArray(ty, sizes, open) => Ok(placed(
-                at,
-                ExprNode::NewArray(ty.copy(alloc)?, bare_all(alloc, sizes.items())?, *open),
-            )),
-            ExprNode::ArrayLit(ty, items) => Ok(placed(
-                at,
-                ExprNode::ArrayLit(ty.copy(alloc)?, bare_all(alloc, items.items())?),
-            )),
-            ExprNode::Braces(items) => Ok(placed(
-                at,
-                ExprNode::Braces(bare_all(alloc, items.items())?),
-            )),
-            ExprNode::Index(e, i) => Ok(placed(
-                at,
-                ExprNode::Index(bare_boxed(alloc, e.get())?, bare_boxed(alloc, i.get())?),
-            )),
-            ExprNode::Unary(op, e) => Ok(placed(
-                at,
-                ExprNode::Unary(op.copy(alloc)?, bare_boxed(alloc, e.get())?),
-            )),
-            ExprNode::Post(e, op) => Ok(placed(
-                at,
-                ExprNode::Post(bare_boxed(alloc, e.get())?, op.copy(alloc)?),
-            )),
-            ExprNode::Binary(a, op, b) => Ok(placed(
-                at,
-                ExprNode::Binary(
-                    bare_boxed(alloc, a.get())?,
-                    op.copy(alloc)?,
-                    bare_boxed(alloc, b.get())?,
-                ),
-            )),
-            ExprNode::Assign(a, op, b) => Ok(placed(
-                at,
-                ExprNode::Assign(
-                    bare_boxed(alloc, a.get())?,
-                    op.copy(alloc)?,
-                    bare_boxed(alloc, b.get())?,
-                ),
-            )),
-            ExprNode::Cond(c, a, b) => Ok(placed(
-                at,
-                ExprNode::Cond(
-                    bare_boxed(alloc, c.get())?,
-                    bare_boxed(alloc, a.get())?,
-                    bare_boxed(alloc, b.get())?,
-                ),
-            )),
-            ExprNode::Cast(ty, e) => Ok(placed(
-                at,
-                ExprNode::Cast(ty.copy(alloc)?, bare_boxed(alloc, e.get())?),
-            )),
-            ExprNode::InstanceOf(e, ty) => Ok(placed(
-                at,
-                ExprNode::InstanceOf(bare_boxed(alloc, e.get())?, ty.copy(alloc)?),
-            )),
+            ExprNode::Name(text) => match text.copy(alloc) {
+                Ok(text) => Ok(placed(at, ExprNode::Name(text))),
+                Err(want) => Err(want),
+            },
+            ExprNode::Dot(e, name) => match both(bare_boxed(alloc, e.get()), name.copy(alloc)) {
+                Ok((e, name)) => Ok(placed(at, ExprNode::Dot(e, name))),
+                Err(want) => Err(want),
+            },
+            ExprNode::Call(on, name, args) => match both(
+                bare_on(alloc, on),
+                both(name.copy(alloc), bare_all(alloc, args.items())),
+            ) {
+                Ok((on, (name, args))) => Ok(placed(at, ExprNode::Call(on, name, args))),
+                Err(want) => Err(want),
+            },
+            ExprNode::SuperCall(name, args) => match both(
+                name.copy(alloc),
+                bare_all(alloc, args.items()),
+            ) {
+                Ok((name, args)) => Ok(placed(at, ExprNode::SuperCall(name, args))),
+                Err(want) => Err(want),
+            },
+            ExprNode::New(ty, args) => match both(ty.copy(alloc), bare_all(alloc, args.items())) {
+                Ok((ty, args)) => Ok(placed(at, ExprNode::New(ty, args))),
+                Err(want) => Err(want),
+            },
+            ExprNode::NewArray(ty, sizes, open) => match both(
+                ty.copy(alloc),
+                bare_all(alloc, sizes.items()),
+            ) {
+                Ok((ty, sizes)) => Ok(placed(at, ExprNode::NewArray(ty, sizes, *open))),
+                Err(want) => Err(want),
+            },
+            ExprNode::ArrayLit(ty, items) => match both(
+                ty.copy(alloc),
+                bare_all(alloc, items.items()),
+            ) {
+                Ok((ty, items)) => Ok(placed(at, ExprNode::ArrayLit(ty, items))),
+                Err(want) => Err(want),
+            },
+            ExprNode::Braces(items) => match bare_all(alloc, items.items()) {
+                Ok(items) => Ok(placed(at, ExprNode::Braces(items))),
+                Err(want) => Err(want),
+            },
+            ExprNode::Index(e, i) => match both(
+                bare_boxed(alloc, e.get()),
+                bare_boxed(alloc, i.get()),
+            ) {
+                Ok((e, i)) => Ok(placed(at, ExprNode::Index(e, i))),
+                Err(want) => Err(want),
+            },
+            ExprNode::Unary(op, e) => match both(op.copy(alloc), bare_boxed(alloc, e.get())) {
+                Ok((op, e)) => Ok(placed(at, ExprNode::Unary(op, e))),
+                Err(want) => Err(want),
+            },
+            ExprNode::Post(e, op) => match both(bare_boxed(alloc, e.get()), op.copy(alloc)) {
+                Ok((e, op)) => Ok(placed(at, ExprNode::Post(e, op))),
+                Err(want) => Err(want),
+            },
+            ExprNode::Binary(a, op, b) => match both(
+                bare_boxed(alloc, a.get()),
+                both(op.copy(alloc), bare_boxed(alloc, b.get())),
+            ) {
+                Ok((a, (op, b))) => Ok(placed(at, ExprNode::Binary(a, op, b))),
+                Err(want) => Err(want),
+            },
+            ExprNode::Assign(a, op, b) => match both(
+                bare_boxed(alloc, a.get()),
+                both(op.copy(alloc), bare_boxed(alloc, b.get())),
+            ) {
+                Ok((a, (op, b))) => Ok(placed(at, ExprNode::Assign(a, op, b))),
+                Err(want) => Err(want),
+            },
+            ExprNode::Cond(c, a, b) => match both(
+                bare_boxed(alloc, c.get()),
+                both(bare_boxed(alloc, a.get()), bare_boxed(alloc, b.get())),
+            ) {
+                Ok((c, (a, b))) => Ok(placed(at, ExprNode::Cond(c, a, b))),
+                Err(want) => Err(want),
+            },
+            ExprNode::Cast(ty, e) => match both(ty.copy(alloc), bare_boxed(alloc, e.get())) {
+                Ok((ty, e)) => Ok(placed(at, ExprNode::Cast(ty, e))),
+                Err(want) => Err(want),
+            },
+            ExprNode::InstanceOf(e, ty) => match both(bare_boxed(alloc, e.get()), ty.copy(alloc)) {
+                Ok((e, ty)) => Ok(placed(at, ExprNode::InstanceOf(e, ty))),
+                Err(want) => Err(want),
+            },
             ExprNode::Paren(e) => e.get().drop_parens(alloc),
         }
     }

@@ -5,7 +5,7 @@ ghost use Rattle.jav_tree.specs.Parens.{expr_without_parens};
 use crate::bare::{bare_all, bare_maybe};
 use crate::copy::copy_texts;
 use crate::stmt::{Block, Declarator, Else, ForStart, Let, Stmt, StmtNode};
-use mol_base::{Boxed, List, OutOfMemory};
+use mol_base::{Boxed, List, OutOfMemory, both};
 use std::alloc::Global;
 
 impl Declarator {
@@ -98,37 +98,58 @@ impl StmtNode {
         ensures { IfOk result (λ bare. bare ≡ map_stmt_node expr_without_parens self.now) }
     {
         match self {
-            StmtNode::Block(block) => Ok(StmtNode::Block(block.drop_parens(alloc)?)),
-            StmtNode::Let(decl) => Ok(StmtNode::Let(decl.drop_parens(alloc)?)),
-            StmtNode::Do(e) => Ok(StmtNode::Do(e.drop_parens(alloc)?)),
-            StmtNode::If(e, then, other) => Ok(StmtNode::If(
-                e.drop_parens(alloc)?,
-                then.drop_parens(alloc)?,
-                other.drop_parens(alloc)?,
-            )),
-            StmtNode::While(e, body) => Ok(StmtNode::While(
-                e.drop_parens(alloc)?,
-                body.drop_parens(alloc)?,
-            )),
-            StmtNode::For(start, test, steps, body) => Ok(StmtNode::For(
-                start.drop_parens(alloc)?,
-                bare_maybe(alloc, test)?,
-                bare_all(alloc, steps.items())?,
-                body.drop_parens(alloc)?,
-            )),
-            StmtNode::Each(is_final, ty, name, e, body) => Ok(StmtNode::Each(
-                *is_final,
-                ty.copy(alloc)?,
-                name.copy(alloc)?,
-                e.drop_parens(alloc)?,
-                body.drop_parens(alloc)?,
-            )),
-            StmtNode::Return(e) => Ok(StmtNode::Return(bare_maybe(alloc, e)?)),
-            StmtNode::Throw(e) => Ok(StmtNode::Throw(e.drop_parens(alloc)?)),
+            StmtNode::Block(block) => match block.drop_parens(alloc) {
+                Ok(block) => Ok(StmtNode::Block(block)),
+                Err(want) => Err(want),
+            },
+            StmtNode::Let(decl) => match decl.drop_parens(alloc) {
+                Ok(decl) => Ok(StmtNode::Let(decl)),
+                Err(want) => Err(want),
+            },
+            StmtNode::Do(e) => match e.drop_parens(alloc) {
+                Ok(e) => Ok(StmtNode::Do(e)),
+                Err(want) => Err(want),
+            },
+            StmtNode::If(e, then, other) => match both(
+                e.drop_parens(alloc),
+                both(then.drop_parens(alloc), other.drop_parens(alloc)),
+            ) {
+                Ok((e, (then, other))) => Ok(StmtNode::If(e, then, other)),
+                Err(want) => Err(want),
+            },
+            StmtNode::While(e, body) => match both(e.drop_parens(alloc), body.drop_parens(alloc)) {
+                Ok((e, body)) => Ok(StmtNode::While(e, body)),
+                Err(want) => Err(want),
+            },
+            StmtNode::For(start, test, steps, body) => match both(
+                both(start.drop_parens(alloc), bare_maybe(alloc, test)),
+                both(bare_all(alloc, steps.items()), body.drop_parens(alloc)),
+            ) {
+                Ok(((start, test), (steps, body))) => Ok(StmtNode::For(start, test, steps, body)),
+                Err(want) => Err(want),
+            },
+            StmtNode::Each(is_final, ty, name, e, body) => match both(
+                both(ty.copy(alloc), name.copy(alloc)),
+                both(e.drop_parens(alloc), body.drop_parens(alloc)),
+            ) {
+                Ok(((ty, name), (e, body))) => Ok(StmtNode::Each(*is_final, ty, name, e, body)),
+                Err(want) => Err(want),
+            },
+            StmtNode::Return(e) => match bare_maybe(alloc, e) {
+                Ok(e) => Ok(StmtNode::Return(e)),
+                Err(want) => Err(want),
+            },
+            StmtNode::Throw(e) => match e.drop_parens(alloc) {
+                Ok(e) => Ok(StmtNode::Throw(e)),
+                Err(want) => Err(want),
+            },
             StmtNode::Break => Ok(StmtNode::Break),
             StmtNode::Continue => Ok(StmtNode::Continue),
             StmtNode::Empty => Ok(StmtNode::Empty),
-            StmtNode::SuperInit(args) => Ok(StmtNode::SuperInit(bare_all(alloc, args.items())?)),
+            StmtNode::SuperInit(args) => match bare_all(alloc, args.items()) {
+                Ok(args) => Ok(StmtNode::SuperInit(args)),
+                Err(want) => Err(want),
+            },
         }
     }
 }

@@ -1,7 +1,7 @@
 ghost use Rattle.std.specs.Prelude.{◌≡◌, IfOk};
 
 use crate::expr::{Expr, ExprNode};
-use mol_base::{Boxed, List, OutOfMemory};
+use mol_base::{Boxed, List, OutOfMemory, both};
 use std::alloc::Global;
 
 impl Expr {
@@ -23,72 +23,103 @@ impl ExprNode {
         ensures { IfOk result (λ copy. copy ≡ self.now) }
     {
         match self {
-            ExprNode::Lit(text) => Ok(ExprNode::Lit(text.copy(alloc)?)),
+            ExprNode::Lit(text) => match text.copy(alloc) {
+                Ok(text) => Ok(ExprNode::Lit(text)),
+                Err(want) => Err(want),
+            },
             ExprNode::This => Ok(ExprNode::This),
-            ExprNode::Name(text) => Ok(ExprNode::Name(text.copy(alloc)?)),
-            ExprNode::Dot(e, name) => Ok(ExprNode::Dot(
-                copy_boxed(alloc, e.get())?,
-                name.copy(alloc)?,
-            )),
-            ExprNode::Call(on, name, args) => Ok(ExprNode::Call(
-                copy_on(alloc, on)?,
-                name.copy(alloc)?,
-                copy_all(alloc, args.items())?,
-            )),
-            ExprNode::SuperCall(name, args) => Ok(ExprNode::SuperCall(
-                name.copy(alloc)?,
-                copy_all(alloc, args.items())?,
-            )),
-            ExprNode::New(ty, args) => Ok(ExprNode::New(
-                ty.copy(alloc)?,
-                copy_all(alloc, args.items())?,
-            )),
-            ExprNode::NewArray(ty, sizes, open) => Ok(ExprNode::NewArray(
-                ty.copy(alloc)?,
-                copy_all(alloc, sizes.items())?,
-                *open,
-            )),
-            ExprNode::ArrayLit(ty, items) => Ok(ExprNode::ArrayLit(
-                ty.copy(alloc)?,
-                copy_all(alloc, items.items())?,
-            )),
-            ExprNode::Braces(items) => Ok(ExprNode::Braces(copy_all(alloc, items.items())?)),
-            ExprNode::Index(e, i) => Ok(ExprNode::Index(
-                copy_boxed(alloc, e.get())?,
-                copy_boxed(alloc, i.get())?,
-            )),
-            ExprNode::Unary(op, e) => Ok(ExprNode::Unary(
-                op.copy(alloc)?,
-                copy_boxed(alloc, e.get())?,
-            )),
-            ExprNode::Post(e, op) => Ok(ExprNode::Post(
-                copy_boxed(alloc, e.get())?,
-                op.copy(alloc)?,
-            )),
-            ExprNode::Binary(a, op, b) => Ok(ExprNode::Binary(
-                copy_boxed(alloc, a.get())?,
-                op.copy(alloc)?,
-                copy_boxed(alloc, b.get())?,
-            )),
-            ExprNode::Assign(a, op, b) => Ok(ExprNode::Assign(
-                copy_boxed(alloc, a.get())?,
-                op.copy(alloc)?,
-                copy_boxed(alloc, b.get())?,
-            )),
-            ExprNode::Cond(c, a, b) => Ok(ExprNode::Cond(
-                copy_boxed(alloc, c.get())?,
-                copy_boxed(alloc, a.get())?,
-                copy_boxed(alloc, b.get())?,
-            )),
-            ExprNode::Cast(ty, e) => Ok(ExprNode::Cast(
-                ty.copy(alloc)?,
-                copy_boxed(alloc, e.get())?,
-            )),
-            ExprNode::InstanceOf(e, ty) => Ok(ExprNode::InstanceOf(
-                copy_boxed(alloc, e.get())?,
-                ty.copy(alloc)?,
-            )),
-            ExprNode::Paren(e) => Ok(ExprNode::Paren(copy_boxed(alloc, e.get())?)),
+            ExprNode::Name(text) => match text.copy(alloc) {
+                Ok(text) => Ok(ExprNode::Name(text)),
+                Err(want) => Err(want),
+            },
+            ExprNode::Dot(e, name) => match both(copy_boxed(alloc, e.get()), name.copy(alloc)) {
+                Ok((e, name)) => Ok(ExprNode::Dot(e, name)),
+                Err(want) => Err(want),
+            },
+            ExprNode::Call(on, name, args) => match both(
+                copy_on(alloc, on),
+                both(name.copy(alloc), copy_all(alloc, args.items())),
+            ) {
+                Ok((on, (name, args))) => Ok(ExprNode::Call(on, name, args)),
+                Err(want) => Err(want),
+            },
+            ExprNode::SuperCall(name, args) => match both(
+                name.copy(alloc),
+                copy_all(alloc, args.items()),
+            ) {
+                Ok((name, args)) => Ok(ExprNode::SuperCall(name, args)),
+                Err(want) => Err(want),
+            },
+            ExprNode::New(ty, args) => match both(ty.copy(alloc), copy_all(alloc, args.items())) {
+                Ok((ty, args)) => Ok(ExprNode::New(ty, args)),
+                Err(want) => Err(want),
+            },
+            ExprNode::NewArray(ty, sizes, open) => match both(
+                ty.copy(alloc),
+                copy_all(alloc, sizes.items()),
+            ) {
+                Ok((ty, sizes)) => Ok(ExprNode::NewArray(ty, sizes, *open)),
+                Err(want) => Err(want),
+            },
+            ExprNode::ArrayLit(ty, items) => match both(
+                ty.copy(alloc),
+                copy_all(alloc, items.items()),
+            ) {
+                Ok((ty, items)) => Ok(ExprNode::ArrayLit(ty, items)),
+                Err(want) => Err(want),
+            },
+            ExprNode::Braces(items) => match copy_all(alloc, items.items()) {
+                Ok(items) => Ok(ExprNode::Braces(items)),
+                Err(want) => Err(want),
+            },
+            ExprNode::Index(e, i) => match both(
+                copy_boxed(alloc, e.get()),
+                copy_boxed(alloc, i.get()),
+            ) {
+                Ok((e, i)) => Ok(ExprNode::Index(e, i)),
+                Err(want) => Err(want),
+            },
+            ExprNode::Unary(op, e) => match both(op.copy(alloc), copy_boxed(alloc, e.get())) {
+                Ok((op, e)) => Ok(ExprNode::Unary(op, e)),
+                Err(want) => Err(want),
+            },
+            ExprNode::Post(e, op) => match both(copy_boxed(alloc, e.get()), op.copy(alloc)) {
+                Ok((e, op)) => Ok(ExprNode::Post(e, op)),
+                Err(want) => Err(want),
+            },
+            ExprNode::Binary(a, op, b) => match both(
+                copy_boxed(alloc, a.get()),
+                both(op.copy(alloc), copy_boxed(alloc, b.get())),
+            ) {
+                Ok((a, (op, b))) => Ok(ExprNode::Binary(a, op, b)),
+                Err(want) => Err(want),
+            },
+            ExprNode::Assign(a, op, b) => match both(
+                copy_boxed(alloc, a.get()),
+                both(op.copy(alloc), copy_boxed(alloc, b.get())),
+            ) {
+                Ok((a, (op, b))) => Ok(ExprNode::Assign(a, op, b)),
+                Err(want) => Err(want),
+            },
+            ExprNode::Cond(c, a, b) => match both(
+                copy_boxed(alloc, c.get()),
+                both(copy_boxed(alloc, a.get()), copy_boxed(alloc, b.get())),
+            ) {
+                Ok((c, (a, b))) => Ok(ExprNode::Cond(c, a, b)),
+                Err(want) => Err(want),
+            },
+            ExprNode::Cast(ty, e) => match both(ty.copy(alloc), copy_boxed(alloc, e.get())) {
+                Ok((ty, e)) => Ok(ExprNode::Cast(ty, e)),
+                Err(want) => Err(want),
+            },
+            ExprNode::InstanceOf(e, ty) => match both(copy_boxed(alloc, e.get()), ty.copy(alloc)) {
+                Ok((e, ty)) => Ok(ExprNode::InstanceOf(e, ty)),
+                Err(want) => Err(want),
+            },
+            ExprNode::Paren(e) => match copy_boxed(alloc, e.get()) {
+                Ok(e) => Ok(ExprNode::Paren(e)),
+                Err(want) => Err(want),
+            },
         }
     }
 }

@@ -2,7 +2,7 @@ ghost use Rattle.std.specs.Prelude.{◌≡◌, IfOk};
 
 use crate::copy::{copy_all, copy_maybe, copy_texts};
 use crate::stmt::{Block, Declarator, Else, ForStart, Let, Stmt, StmtNode};
-use mol_base::{Boxed, List, OutOfMemory};
+use mol_base::{Boxed, List, OutOfMemory, both};
 use std::alloc::Global;
 
 impl Declarator {
@@ -96,34 +96,58 @@ impl StmtNode {
         ensures { IfOk result (λ copy. copy ≡ self.now) }
     {
         match self {
-            StmtNode::Block(block) => Ok(StmtNode::Block(block.copy(alloc)?)),
-            StmtNode::Let(decl) => Ok(StmtNode::Let(decl.copy(alloc)?)),
-            StmtNode::Do(e) => Ok(StmtNode::Do(e.copy(alloc)?)),
-            StmtNode::If(e, then, other) => Ok(StmtNode::If(
-                e.copy(alloc)?,
-                then.copy(alloc)?,
-                other.copy(alloc)?,
-            )),
-            StmtNode::While(e, body) => Ok(StmtNode::While(e.copy(alloc)?, body.copy(alloc)?)),
-            StmtNode::For(start, test, steps, body) => Ok(StmtNode::For(
-                start.copy(alloc)?,
-                copy_maybe(alloc, test)?,
-                copy_all(alloc, steps.items())?,
-                body.copy(alloc)?,
-            )),
-            StmtNode::Each(is_final, ty, name, e, body) => Ok(StmtNode::Each(
-                *is_final,
-                ty.copy(alloc)?,
-                name.copy(alloc)?,
-                e.copy(alloc)?,
-                body.copy(alloc)?,
-            )),
-            StmtNode::Return(e) => Ok(StmtNode::Return(copy_maybe(alloc, e)?)),
-            StmtNode::Throw(e) => Ok(StmtNode::Throw(e.copy(alloc)?)),
+            StmtNode::Block(block) => match block.copy(alloc) {
+                Ok(block) => Ok(StmtNode::Block(block)),
+                Err(want) => Err(want),
+            },
+            StmtNode::Let(decl) => match decl.copy(alloc) {
+                Ok(decl) => Ok(StmtNode::Let(decl)),
+                Err(want) => Err(want),
+            },
+            StmtNode::Do(e) => match e.copy(alloc) {
+                Ok(e) => Ok(StmtNode::Do(e)),
+                Err(want) => Err(want),
+            },
+            StmtNode::If(e, then, other) => match both(
+                e.copy(alloc),
+                both(then.copy(alloc), other.copy(alloc)),
+            ) {
+                Ok((e, (then, other))) => Ok(StmtNode::If(e, then, other)),
+                Err(want) => Err(want),
+            },
+            StmtNode::While(e, body) => match both(e.copy(alloc), body.copy(alloc)) {
+                Ok((e, body)) => Ok(StmtNode::While(e, body)),
+                Err(want) => Err(want),
+            },
+            StmtNode::For(start, test, steps, body) => match both(
+                both(start.copy(alloc), copy_maybe(alloc, test)),
+                both(copy_all(alloc, steps.items()), body.copy(alloc)),
+            ) {
+                Ok(((start, test), (steps, body))) => Ok(StmtNode::For(start, test, steps, body)),
+                Err(want) => Err(want),
+            },
+            StmtNode::Each(is_final, ty, name, e, body) => match both(
+                both(ty.copy(alloc), name.copy(alloc)),
+                both(e.copy(alloc), body.copy(alloc)),
+            ) {
+                Ok(((ty, name), (e, body))) => Ok(StmtNode::Each(*is_final, ty, name, e, body)),
+                Err(want) => Err(want),
+            },
+            StmtNode::Return(e) => match copy_maybe(alloc, e) {
+                Ok(e) => Ok(StmtNode::Return(e)),
+                Err(want) => Err(want),
+            },
+            StmtNode::Throw(e) => match e.copy(alloc) {
+                Ok(e) => Ok(StmtNode::Throw(e)),
+                Err(want) => Err(want),
+            },
             StmtNode::Break => Ok(StmtNode::Break),
             StmtNode::Continue => Ok(StmtNode::Continue),
             StmtNode::Empty => Ok(StmtNode::Empty),
-            StmtNode::SuperInit(args) => Ok(StmtNode::SuperInit(copy_all(alloc, args.items())?)),
+            StmtNode::SuperInit(args) => match copy_all(alloc, args.items()) {
+                Ok(args) => Ok(StmtNode::SuperInit(args)),
+                Err(want) => Err(want),
+            },
         }
     }
 }

@@ -13,18 +13,18 @@ use Rattle.mol_base.specs.Order.{id_cmp-total, id_cmp-IsAntisymmetric}
 use Rattle.mol_base.specs.declared.ident.Id.{Id}
 use Rattle.mol_faults_rules.specs.OfKind.{AreOfKind}
 use Rattle.mol_spell_rules.specs.FaultList.{Fault, apart, IsFault, by_address, by_override, by_place, by_outside_name, by_absence, by_reading, by_local, by_package, fault_key}
-use Rattle.mol_table.proofs.Counts.{each_found}
-use Rattle.mol_table.proofs.Living.{id_tied}
-use Rattle.mol_table.specs.Faults.{Apart, is_above_living, is_topmost}
-use Rattle.mol_table.specs.Identities.{IsAscending, AreKnown}
-use Rattle.mol_table.specs.Life.{is_decl_of, is_living_decl, lives, lives_as, lives_method}
-use Rattle.mol_table.specs.Mentions.{a_method}
-use Rattle.mol_table.specs.Program.{Program}
-use Rattle.mol_table.specs.Renumber.{topmost}
-use Rattle.mol_table.specs.Rules.{IsProgram, fills}
-use Rattle.mol_values.specs.declared.kind.MethodKind.{MethodKind}
-use Rattle.mol_values.specs.declared.known.Known.{Known}
-use Rattle.mol_values.specs.declared.known.Known.TheVariants as knowns
+use Rattle.mol_table_rules.proofs.Counts.{each_found}
+use Rattle.mol_table_rules.proofs.Living.{id_tied}
+use Rattle.mol_table_rules.specs.Faults.{Apart, is_above_living, is_topmost}
+use Rattle.mol_table_rules.specs.Identities.{IsAscending, AreKnown}
+use Rattle.mol_table_rules.specs.Life.{is_decl_of, is_living_decl, lives, lives_as, lives_method}
+use Rattle.mol_table_rules.specs.Mentions.{a_method}
+use Rattle.mol_table_rules.specs.Program.{Program}
+use Rattle.mol_table_rules.specs.Renumber.{topmost}
+use Rattle.mol_table_rules.specs.Rules.{IsProgram, fills}
+use Rattle.mol_values_types.specs.declared.kind.MethodKind.{MethodKind}
+use Rattle.mol_values_types.specs.declared.known.Known.{Known}
+use Rattle.mol_values_types.specs.declared.known.Known.TheVariants as knowns
 use Rattle.mol_faults_entities.specs.method_faults.ApartMethods.{is_apart_as, is_apart}
 use Rattle.mol_faults_entities.proofs.method_faults_lemmas.Listed.{fault_of, of-kind}
 use Rattle.mol_faults_entities.proofs.method_faults_lemmas.OutsideNamesFound.{misread-kind}

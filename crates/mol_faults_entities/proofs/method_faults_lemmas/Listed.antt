@@ -13,9 +13,9 @@ use Rattle.mol_base.specs.declared.ident.Id.{Id}
 use Rattle.mol_faults_rules.specs.OfKind.{AreOfKind}
 use Rattle.mol_resolve_rules.proofs.Stands.{in_some, from_some}
 use Rattle.mol_spell_rules.specs.FaultList.{Fault, IsFault, fault_key, fault_cmp, no_id}
-use Rattle.mol_table.proofs.Counts.{none-some, some-same}
-use Rattle.mol_table.specs.Identities.{IsAscending, AreKnown}
-use Rattle.mol_table.specs.Program.{Program}
+use Rattle.mol_table_rules.proofs.Counts.{none-some, some-same}
+use Rattle.mol_table_rules.specs.Identities.{IsAscending, AreKnown}
+use Rattle.mol_table_rules.specs.Program.{Program}
 
 module _ (make : Id → Fault) (test : Id → Bool) where
   -- the fault of an identity, if it has one

@@ -16,7 +16,7 @@ use Rattle.mol_faults_entities.proofs.override_faults_lemmas.NamedAlike.{less-fi
 use Rattle.mol_faults_entities.proofs.override_faults_lemmas.PairsAbove.{one-there, only-one}
 use Rattle.mol_faults_entities.specs.declared.pair_faults.pair.Pair.{Pair}
 use Rattle.mol_resolve_rules.proofs.Stands.{behind, in_either, in_front, in_place}
-use Rattle.mol_table.proofs.Counts.{none-some, some-same}
+use Rattle.mol_table_rules.proofs.Counts.{none-some, some-same}
 
 -- what stands in a list stands at a place of it
 place-of : {X : Type 0} (xs : List X) (x : X) (stands : Contains xs x) → slice_get xs stands.0 ≡ Some x

@@ -12,11 +12,11 @@ use Rattle.mol_faults_entities.specs.declared.override_faults.declaration.Declar
 use Rattle.mol_faults_entities.proofs.pair_faults_lemmas.MadeRows.{IsMaking}
 use Rattle.mol_resolve_rules.proofs.Stands.{from_map}
 use Rattle.mol_spell_rules.specs.NameFaults.{IsLivingDeclaration}
-use Rattle.mol_table.specs.Program.{Program, living_at, owner_at}
-use Rattle.mol_values.specs.declared.kind.MethodKind.{MethodKind}
-use Rattle.mol_values.specs.declared.kind.MethodKind.TheVariants.{Instance, Static, Constructor}
-use Rattle.mol_values.specs.declared.known.Known.{Known}
-use Rattle.mol_values.specs.declared.known.Known.TheVariants as knowns
+use Rattle.mol_table_rules.specs.Program.{Program, living_at, owner_at}
+use Rattle.mol_values_types.specs.declared.kind.MethodKind.{MethodKind}
+use Rattle.mol_values_types.specs.declared.kind.MethodKind.TheVariants.{Instance, Static, Constructor}
+use Rattle.mol_values_types.specs.declared.known.Known.{Known}
+use Rattle.mol_values_types.specs.declared.known.Known.TheVariants as knowns
 
 module _ (program : Program) (positions : List (Id × Position)) where
   -- a row is that of a living declaration of a method that is no constructor

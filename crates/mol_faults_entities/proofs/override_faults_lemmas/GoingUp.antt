@@ -15,14 +15,14 @@ use Rattle.mol_faults_entities.specs.override_faults.Overridden.{Adds, ArePlaced
 use Rattle.mol_faults_entities.specs.declared.override_faults.declaration.Declaration.{Declaration}
 use Rattle.mol_faults_entities.proofs.override_faults_lemmas.PairsAbove.{owners-apart}
 use Rattle.mol_faults_entities.specs.declared.pair_faults.pair.Pair.{Pair}
-use Rattle.mol_table.proofs.Counts.{none-some, some-same}
-use Rattle.mol_table.proofs.Living.{id_tied}
-use Rattle.mol_table.specs.Ancestors.{is_on_way, unmet, walk}
-use Rattle.mol_table.specs.Heights.{climb, upward}
-use Rattle.mol_table.specs.Identities.{IsAscending, AreKnown}
-use Rattle.mol_table.specs.Program.{Program, same_id}
-use Rattle.mol_table.specs.Rules.{IsProgram}
-use Rattle.mol_values.specs.declared.known.Known.{Known}
+use Rattle.mol_table_rules.proofs.Counts.{none-some, some-same}
+use Rattle.mol_table_rules.proofs.Living.{id_tied}
+use Rattle.mol_table_rules.specs.Ancestors.{is_on_way, unmet, walk}
+use Rattle.mol_table_rules.specs.Heights.{climb, upward}
+use Rattle.mol_table_rules.specs.Identities.{IsAscending, AreKnown}
+use Rattle.mol_table_rules.specs.Program.{Program, same_id}
+use Rattle.mol_table_rules.specs.Rules.{IsProgram}
+use Rattle.mol_values_types.specs.declared.known.Known.{Known}
 
 pub ids-count : (program : Program) (ids : List Id) → IsAscending ids → AreKnown program ids → length ids ≡ len program.known
 ids-count program ids ascending known =

@@ -23,8 +23,8 @@ use Rattle.mol_faults_entities.specs.declared.pair_faults.pair.Pair.{Pair}
 use Rattle.mol_faults_entities.proofs.pair_faults_lemmas.Fronts.{ascend, between}
 use Rattle.mol_resolve_rules.proofs.Stands.{get-below, in_place}
 use Rattle.mol_spell_rules.proofs.FilesOrdered.{filter-passes, filter-stands}
-use Rattle.mol_table.specs.Program.{Program}
-use Rattle.mol_values.specs.Order.{id_eq}
+use Rattle.mol_table_rules.specs.Program.{Program}
+use Rattle.mol_values_types.specs.Order.{id_eq}
 
 pub methods_cmp-total : IsTotalOrder methods_cmp
 methods_cmp-total = then_total (on_total naming_at naming-order.total) (on_total (λ (d : Declaration). d.method) id_cmp-total)

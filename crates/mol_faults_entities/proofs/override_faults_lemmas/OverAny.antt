@@ -7,7 +7,7 @@ use Rattle.mol_faults_entities.specs.override_faults.Overridden.{Adds, IsOver, I
 use Rattle.mol_faults_entities.specs.declared.override_faults.declaration.Declaration.{Declaration}
 use Rattle.mol_faults_entities.specs.declared.pair_faults.pair.Pair.{Pair}
 use Rattle.mol_resolve_rules.proofs.Stands.{behind, in_either, in_front}
-use Rattle.mol_table.specs.Program.{Program}
+use Rattle.mol_table_rules.specs.Program.{Program}
 
 module _ (program : Program) (rows : List Declaration) where
   -- These are the pairs of the declarations.

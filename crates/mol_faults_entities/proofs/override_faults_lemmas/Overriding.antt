@@ -12,8 +12,8 @@ use Rattle.mol_faults_entities.specs.pair_faults.Pairs.{ArePairsOf, ordered_pair
 use Rattle.mol_faults_entities.specs.declared.pair_faults.pair.Pair.{Pair}
 use Rattle.mol_faults_entities.proofs.pair_faults_lemmas.PairsOrdered.{IsOf, pair-is, pair-made, pair-made_back}
 use Rattle.mol_spell_rules.specs.NameFaults.{AreAlike, FalseOverride, IsLivingDeclaration, IsProperAncestor}
-use Rattle.mol_table.specs.Ancestors.{is_on_way}
-use Rattle.mol_table.specs.Program.{Program, name_at, params_at}
+use Rattle.mol_table_rules.specs.Ancestors.{is_on_way}
+use Rattle.mol_table_rules.specs.Program.{Program, name_at, params_at}
 
 module _ (program : Program) (positions : List (Id × Position)) (rows : List Declaration)
     (are : AreDeclared program positions (map row_of rows)) where

@@ -7,11 +7,11 @@ use Rattle.mol_faults_entities.specs.override_faults.Overridden.{pair_above}
 use Rattle.mol_faults_entities.specs.declared.override_faults.declaration.Declaration.{Declaration}
 use Rattle.mol_faults_entities.specs.pair_faults.Pairs.{ordered_pair}
 use Rattle.mol_faults_entities.specs.declared.pair_faults.pair.Pair.{Pair}
-use Rattle.mol_table.proofs.Counts.{none-some}
-use Rattle.mol_table.proofs.Living.{id_apart, id_tied, same_id-own}
-use Rattle.mol_table.specs.Program.{same_id}
-use Rattle.mol_values.proofs.Ties.{id_ties}
-use Rattle.mol_values.specs.Order.{id_eq}
+use Rattle.mol_table_rules.proofs.Counts.{none-some}
+use Rattle.mol_table_rules.proofs.Living.{id_apart, id_tied, same_id-own}
+use Rattle.mol_table_rules.specs.Program.{same_id}
+use Rattle.mol_values_types.proofs.Ties.{id_ties}
+use Rattle.mol_values_types.specs.Order.{id_eq}
 
 -- identities that are told apart
 pub eq-own : (x y : Id) → x ≡ y → id_eq x y ≡ true

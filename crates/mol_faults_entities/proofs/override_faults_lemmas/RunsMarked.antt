@@ -6,7 +6,7 @@ use Rattle.mol_scope_classes.proofs.hierarchy_lemmas.WaysUp.{get-front, get-last
 use Rattle.mol_faults_entities.specs.override_faults.Overridden.{AreRuns, IsNext, IsRun}
 use Rattle.mol_faults_entities.specs.declared.override_faults.declaration.Declaration.{Declaration}
 use Rattle.mol_faults_entities.proofs.override_faults_lemmas.PairsAbove.{none-alike}
-use Rattle.mol_table.proofs.Counts.{some-same}
+use Rattle.mol_table_rules.proofs.Counts.{some-same}
 
 module _ (rows : List Declaration) where
   -- with one more of its method

@@ -10,8 +10,8 @@ use Rattle.mol_spell_rules.specs.references.References.{Target, class_target, fi
 use Rattle.mol_resolve_rules.proofs.Stands.{from_map}
 use Rattle.mol_spell_rules.specs.FaultList.{Fault, misread, fault_target, IsFault, by_address, by_override, by_place, by_outside_name, by_absence, by_reading, by_local, by_package, fault_key, fault_cmp}
 use Rattle.mol_spell_rules.specs.NameFaults.{PackageIsClass}
-use Rattle.mol_table.specs.Program.{Program}
-use Rattle.mol_values.specs.declared.cell.Cell.{Cell}
+use Rattle.mol_table_rules.specs.Program.{Program}
+use Rattle.mol_values_types.specs.declared.cell.Cell.{Cell}
 use Rattle.mol_faults_entities.specs.package_faults.Pairs.{HasPairs, fault_of}
 use Rattle.mol_faults_entities.specs.declared.package_faults.inside.Inside.{Inside}
 

@@ -10,11 +10,11 @@ use Rattle.mol_base.specs.declared.ident.Id.{Id}
 use Rattle.mol_resolve_rules.proofs.Stands.{in_each, from_each, in_some, from_some}
 use Rattle.mol_spell_rules.specs.NameFaults.{PackageIsClass}
 use Rattle.mol_spell_rules.specs.Writers.{program_class, full_of}
-use Rattle.mol_table.proofs.Counts.{none-some, some-same}
-use Rattle.mol_table.specs.Identities.{AreKnown}
-use Rattle.mol_table.specs.Program.{Program, package_at, living_at}
-use Rattle.mol_table.specs.Renumber.{is_class, is_living_class}
-use Rattle.mol_values.specs.declared.known.Known.{Known}
+use Rattle.mol_table_rules.proofs.Counts.{none-some, some-same}
+use Rattle.mol_table_rules.specs.Identities.{AreKnown}
+use Rattle.mol_table_rules.specs.Program.{Program, package_at, living_at}
+use Rattle.mol_table_rules.specs.Renumber.{is_class, is_living_class}
+use Rattle.mol_values_types.specs.declared.known.Known.{Known}
 use Rattle.mol_faults_entities.specs.package_faults.Packages.{begins, dotted_package, dotted_name, living_row, IsRow, HasRows}
 use Rattle.mol_faults_entities.specs.package_faults.Pairs.{inside_of, pairs_at, HasPairs}
 use Rattle.mol_faults_entities.specs.declared.package_faults.inside.Inside.{Inside}

@@ -3,10 +3,10 @@ use Rattle.std.proofs.Common.{◌≡◌, Bool, true, List, sym, ◌∙◌}
 use Rattle.std.proofs.lemmas.Bool.{and_parts}
 use Rattle.std.proofs.lemmas.List.Sorted.{Contains-permutation, IsPermutation-sym}
 use Rattle.std.specs.List.Sorted.{IsPermutation}
-use Rattle.mol_table.proofs.Living.{id_tied}
-use Rattle.mol_table.specs.Program.{Program}
-use Rattle.mol_values.proofs.Ties.{id_ties}
-use Rattle.mol_values.specs.Order.{id_eq}
+use Rattle.mol_table_rules.proofs.Living.{id_tied}
+use Rattle.mol_table_rules.specs.Program.{Program}
+use Rattle.mol_values_types.proofs.Ties.{id_ties}
+use Rattle.mol_values_types.specs.Order.{id_eq}
 use Rattle.mol_faults_entities.specs.package_faults.Packages.{HasRows}
 use Rattle.mol_faults_entities.specs.contracts.package_faults.inside.InsidePartialEq as insides
 use Rattle.mol_faults_entities.specs.declared.package_faults.inside.Inside.{Inside}

@@ -5,8 +5,8 @@ use Rattle.mol_faults_entities.specs.pair_faults.Sharing.{address_fault}
 use Rattle.mol_faults_entities.specs.declared.pair_faults.pair.Pair.{Pair}
 use Rattle.mol_faults_entities.proofs.pair_faults_lemmas.PairFaults.{IsMade}
 use Rattle.mol_spell_rules.specs.FaultList.{entity, default_of, local_of, outside_of, Fault, same_address, false_override, apart, outside_name, missing, misread, local_clash, package_is_class, IsFault, by_address, fault_key}
-use Rattle.mol_table.specs.Faults.{SameAddress}
-use Rattle.mol_table.specs.Program.{Program}
+use Rattle.mol_table_rules.specs.Faults.{SameAddress}
+use Rattle.mol_table_rules.specs.Program.{Program}
 
 fault-is : (program : Program) (first second : Id) → IsFault program (same_address first second) → SameAddress program first second
 fault-is program first second (by_address is) = is

@@ -10,7 +10,7 @@ use Rattle.jav_names.specs.Views.{IsKeyOrder}
 use Rattle.mol_base.specs.Order.{id_cmp, id_cmp-total, id_cmp-IsAntisymmetric}
 use Rattle.mol_base.specs.declared.ident.Id.{Id}
 use Rattle.mol_faults_entities.specs.pair_faults.Addresses.{AddressKey, address_key, key_cmp}
-use Rattle.mol_table.specs.Faults.{Address, class_address, field_address, method_address, constructor_address}
+use Rattle.mol_table_rules.specs.Faults.{Address, class_address, field_address, method_address, constructor_address}
 
 -- ---- the order
 

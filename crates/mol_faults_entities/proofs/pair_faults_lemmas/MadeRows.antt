@@ -9,8 +9,8 @@ use Rattle.std.proofs.lemmas.List.Sorted.{Contains-permutation, IsPermutation-ma
 use Rattle.mol_base.specs.declared.ident.Id.{Id}
 use Rattle.mol_faults_entities.specs.pair_faults.MadeRows.{AreMade}
 use Rattle.mol_resolve_rules.proofs.Stands.{from_some, in_some}
-use Rattle.mol_table.specs.Identities.{AreKnown}
-use Rattle.mol_table.specs.Program.{Program}
+use Rattle.mol_table_rules.specs.Identities.{AreKnown}
+use Rattle.mol_table_rules.specs.Program.{Program}
 
 -- Rows are made of identities that are known, and name them.
 pub record IsMaking {R : Type 0} (program : Program) (id_of : R → Id) (made : Id → Option R) : Type 0 where

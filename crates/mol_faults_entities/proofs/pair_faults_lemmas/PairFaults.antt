@@ -13,7 +13,7 @@ use Rattle.mol_faults_entities.specs.pair_faults.Pairs.{ArePairsOf}
 use Rattle.mol_faults_entities.specs.declared.pair_faults.pair.Pair.{Pair}
 use Rattle.mol_resolve_rules.proofs.Stands.{from_map}
 use Rattle.mol_spell_rules.specs.FaultList.{Fault, FaultKey, IsFault, fault_key, fault_key_cmp, fault_cmp, pair_key}
-use Rattle.mol_table.specs.Program.{Program}
+use Rattle.mol_table_rules.specs.Program.{Program}
 
 then-less : (first second : Ordering) → ordering_then first second ≡ Less → ordering_then first (ordering_then second Equal) ≡ Less
 then-less Less second is = refl

@@ -5,9 +5,9 @@ use Rattle.std.proofs.lemmas.Bool.{and_parts}
 use Rattle.std.proofs.lemmas.Option.{same_Some}
 use Rattle.mol_base.specs.Order.{id_cmp, id_cmp-total}
 use Rattle.mol_base.specs.declared.ident.Id.{Id}
-use Rattle.mol_table.proofs.Living.{id_tied}
-use Rattle.mol_values.proofs.Ties.{id_ties}
-use Rattle.mol_values.specs.Order.{id_eq}
+use Rattle.mol_table_rules.proofs.Living.{id_tied}
+use Rattle.mol_values_types.proofs.Ties.{id_ties}
+use Rattle.mol_values_types.specs.Order.{id_eq}
 use Rattle.mol_faults_entities.specs.pair_faults.Pairs.{pair_by, ordered_pair}
 use Rattle.mol_faults_entities.specs.contracts.pair_faults.pair.PairPartialEq as pairs
 use Rattle.mol_faults_entities.specs.declared.pair_faults.pair.Pair.{Pair}

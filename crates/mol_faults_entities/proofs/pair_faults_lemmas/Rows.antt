@@ -13,10 +13,10 @@ use Rattle.mol_faults_entities.proofs.pair_faults_lemmas.Keys.{address-told}
 use Rattle.mol_faults_entities.proofs.pair_faults_lemmas.MadeRows.{IsMaking}
 use Rattle.mol_faults_entities.proofs.pair_faults_lemmas.SharedPairs.{Share, Rise, pairs-share, share-pairs}
 use Rattle.mol_resolve_rules.proofs.Stands.{from_map}
-use Rattle.mol_table.specs.Faults.{Address, SameAddress, address, address_as}
-use Rattle.mol_table.specs.Life.{lives}
-use Rattle.mol_table.specs.Program.{Program}
-use Rattle.mol_values.specs.declared.known.Known.{Known}
+use Rattle.mol_table_rules.specs.Faults.{Address, SameAddress, address, address_as}
+use Rattle.mol_table_rules.specs.Life.{lives}
+use Rattle.mol_table_rules.specs.Program.{Program}
+use Rattle.mol_values_types.specs.declared.known.Known.{Known}
 
 module _ (program : Program) where
   -- an entity that lives, with its address

@@ -2,11 +2,11 @@
 use Rattle.std.specs.Prelude.{Bool, false, ◌&&◌, not, Option, Some, is_some}
 use Rattle.std.specs.FinMap.{get}
 use Rattle.mol_base.specs.declared.ident.Id.{Id}
-use Rattle.mol_table.specs.Life.{lives}
-use Rattle.mol_table.specs.Program.{Program}
-use Rattle.mol_table.specs.Renumber.{topmost}
-use Rattle.mol_values.specs.declared.known.Known.{Known}
-use Rattle.mol_values.specs.declared.known.Known.TheVariants as knowns
+use Rattle.mol_table_rules.specs.Life.{lives}
+use Rattle.mol_table_rules.specs.Program.{Program}
+use Rattle.mol_table_rules.specs.Renumber.{topmost}
+use Rattle.mol_values_types.specs.declared.known.Known.{Known}
+use Rattle.mol_values_types.specs.declared.known.Known.TheVariants as knowns
 
 -- where the identity is known as this
 abbrev pub is_apart_as : Program → Id → Option Known → Bool

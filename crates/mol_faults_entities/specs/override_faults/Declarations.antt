@@ -12,10 +12,10 @@ use Rattle.mol_scope_classes.specs.declared.hierarchy.position.Position.{Positio
 use Rattle.mol_faults_entities.specs.declared.override_faults.declaration.Declaration.{Declaration as Kept}
 use Rattle.mol_faults_entities.specs.declared.override_faults.key.Key.{Key as KeptKey}
 use Rattle.mol_faults_entities.specs.pair_faults.MadeRows.{AreMade}
-use Rattle.mol_table.specs.Program.{Program, living_at, name_at, owner_at, params_at}
-use Rattle.mol_values.specs.declared.kind.MethodKind.TheVariants.{Constructor}
-use Rattle.mol_values.specs.declared.known.Known.{Known}
-use Rattle.mol_values.specs.declared.known.Known.TheVariants as knowns
+use Rattle.mol_table_rules.specs.Program.{Program, living_at, name_at, owner_at, params_at}
+use Rattle.mol_values_types.specs.declared.kind.MethodKind.TheVariants.{Constructor}
+use Rattle.mol_values_types.specs.declared.known.Known.{Known}
+use Rattle.mol_values_types.specs.declared.known.Known.TheVariants as knowns
 
 -- what declarations are sorted by: number of parameters and name of the method, and where the class stands on its path
 pub record Key : Type 0 where

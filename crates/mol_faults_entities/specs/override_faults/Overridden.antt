@@ -13,9 +13,9 @@ use Rattle.mol_faults_entities.specs.declared.override_faults.orders.Orders.{Ord
 use Rattle.mol_faults_entities.specs.pair_faults.Pairs.{ordered_pair}
 use Rattle.mol_faults_entities.specs.declared.pair_faults.pair.Pair.{Pair}
 use Rattle.mol_spell_rules.specs.FaultList.{Fault, false_override}
-use Rattle.mol_table.specs.Ancestors.{is_on_way}
-use Rattle.mol_table.specs.Program.{Program}
-use Rattle.mol_values.specs.Order.{id_eq}
+use Rattle.mol_table_rules.specs.Ancestors.{is_on_way}
+use Rattle.mol_table_rules.specs.Program.{Program}
+use Rattle.mol_values_types.specs.Order.{id_eq}
 
 abbrev pub override_fault : Pair → Fault
 override_fault pair = false_override pair.first pair.second

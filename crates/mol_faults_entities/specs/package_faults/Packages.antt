@@ -7,8 +7,8 @@ use Rattle.std.specs.Ordering.{nat_cmp, is_lt}
 use Rattle.jav_names.specs.DottedNames.{Name, dot}
 use Rattle.mol_base.specs.declared.ident.Id.{Id}
 use Rattle.mol_spell_rules.specs.Writers.{program_class, full_of}
-use Rattle.mol_table.specs.Program.{Program, package_at}
-use Rattle.mol_table.specs.Renumber.{is_living_class}
+use Rattle.mol_table_rules.specs.Program.{Program, package_at}
+use Rattle.mol_table_rules.specs.Renumber.{is_living_class}
 use Rattle.mol_faults_entities.specs.declared.package_faults.package_rows.PackageRow.{PackageRow}
 
 -- a text begins with this front

@@ -4,8 +4,8 @@ use Rattle.jav_names.specs.DottedNames.{Name}
 use Rattle.mol_base.specs.declared.ident.Id.{Id}
 use Rattle.mol_spell_rules.specs.FaultList.{Fault, package_is_class}
 use Rattle.mol_spell_rules.specs.NameFaults.{PackageIsClass}
-use Rattle.mol_table.specs.Program.{Program}
-use Rattle.mol_table.specs.Renumber.{is_living_class}
+use Rattle.mol_table_rules.specs.Program.{Program}
+use Rattle.mol_table_rules.specs.Renumber.{is_living_class}
 use Rattle.mol_faults_entities.specs.package_faults.Packages.{begins, dotted_name}
 use Rattle.mol_faults_entities.specs.declared.package_faults.inside.Inside.{Inside}
 use Rattle.mol_faults_entities.specs.declared.package_faults.package_rows.PackageRow.{PackageRow}

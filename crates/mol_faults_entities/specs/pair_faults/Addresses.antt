@@ -12,9 +12,9 @@ use Rattle.mol_faults_entities.specs.declared.pair_faults.address.Address.{Addre
 use Rattle.mol_faults_entities.specs.declared.pair_faults.address_kind.AddressKind.{AddressKind}
 use Rattle.mol_faults_entities.specs.declared.pair_faults.address_kind.AddressKind.TheVariants.{Class, Field, Method, Constructor}
 use Rattle.mol_faults_entities.specs.declared.pair_faults.addressed.Addressed.{Addressed}
-use Rattle.mol_table.specs.Faults.{Address, class_address, field_address, method_address, constructor_address, address}
-use Rattle.mol_table.specs.Life.{lives}
-use Rattle.mol_table.specs.Program.{Program}
+use Rattle.mol_table_rules.specs.Faults.{Address, class_address, field_address, method_address, constructor_address, address}
+use Rattle.mol_table_rules.specs.Life.{lives}
+use Rattle.mol_table_rules.specs.Program.{Program}
 
 -- what addresses are compared by; what an address does not have is empty
 pub record AddressKey : Type 0 where

@@ -7,7 +7,7 @@ use mol_base::{Id, List, OutOfMemory};
 use mol_faults_rules::Fault;
 use mol_scope_members::Topmost;
 use mol_table::Table;
-use mol_values::Known;
+use mol_values_types::Known;
 use std::alloc::Global;
 
 /// Each method that lives and has no living declaration whose class is, for each living declaration of the method, its class or an ancestor

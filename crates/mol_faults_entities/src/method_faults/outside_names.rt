@@ -3,14 +3,14 @@ ghost use Rattle.std.specs.Prelude.{◌≡◌, IfOk, cond, length, not};
 ghost use Rattle.jav_names.specs.Members.{is_object_method};
 ghost use Rattle.mol_faults_rules.specs.OfKind.{AreAllOfKind};
 ghost use Rattle.mol_faults_entities.specs.method_faults.OutsideNames.{has_outside_name, is_living_method, is_noted_otherwise};
-ghost use Rattle.mol_table.specs.Program.{name_at, params_at};
+ghost use Rattle.mol_table_rules.specs.Program.{name_at, params_at};
 
 use jav_scope::is_object_method;
 use mol_base::{Id, List, OutOfMemory, Text, number_of};
 use mol_faults_rules::Fault;
 use mol_scope_classes::{name_of, params_of};
 use mol_table::Table;
-use mol_values::{Cell, Known, MethodKind, Slot, Value};
+use mol_values_types::{Cell, Known, MethodKind, Slot, Value};
 use std::alloc::Global;
 
 /// Each method that lives, is no constructor, and has the name and the number of parameters of one of `Object` (JLS 4.3.2) now and had

@@ -3,14 +3,14 @@ ghost use Rattle.std.specs.Prelude.{◌≡◌, IfOk, map, option_map};
 ghost use Rattle.std.specs.FinMap as fin;
 ghost use Rattle.std.specs.List.Sorted.{IsSorted};
 ghost use Rattle.mol_faults_entities.specs.override_faults.Declarations.{AreDeclared, declared_as, declared_in, declared_of, is_method, row_of, rows_cmp};
-ghost use Rattle.mol_table.specs.Program.{owner_at};
+ghost use Rattle.mol_table_rules.specs.Program.{owner_at};
 
 use crate::override_faults::declaration::Declaration;
 use crate::override_faults::key::Key;
 use mol_base::{Id, OutOfMemory};
 use mol_scope_classes::{Paths, is_live, name_of, owner_of, params_of};
 use mol_table::Table;
-use mol_values::{Known, MethodKind};
+use mol_values_types::{Known, MethodKind};
 use std::alloc::Global;
 
 /// The living declarations of methods that are no constructors, by number of parameters, name and position of the class.

@@ -4,7 +4,7 @@ ghost use Rattle.mol_faults_rules.specs.Kept.{kept_fault};
 ghost use Rattle.mol_faults_rules.specs.OfKind.{AreAllOfKind};
 ghost use Rattle.mol_faults_entities.specs.pair_faults.Pairs.{ArePairsOf};
 ghost use Rattle.mol_faults_entities.specs.pair_faults.Sharing.{address_fault};
-ghost use Rattle.mol_table.specs.Faults.{SameAddress};
+ghost use Rattle.mol_table_rules.specs.Faults.{SameAddress};
 
 use crate::pair_faults::addressed::by_address;
 use crate::pair_faults::pair::Pair;

@@ -1,10 +1,12 @@
 //! The kinds of addresses.
 
-/// What is at an address. Methods are there by their declarations.
+/// What is at an address. The order of the variants is that of the addresses.
 #[derive(Clone, Copy, PartialEq, Eq, PartialOrd, Ord)]
-pub(crate) enum AddressKind {
+pub enum AddressKind {
     Class,
     Field,
+    /// A declaration of a method that is no constructor.
     Method,
+    /// The declaration of a constructor.
     Constructor,
 }

@@ -2,10 +2,10 @@
 ghost use Rattle.std.specs.Prelude.{◌≡◌, IfOk, map, option_map};
 ghost use Rattle.std.specs.List.Sorted.{IsSorted};
 ghost use Rattle.mol_faults_entities.specs.pair_faults.Addresses.{AreLocated, located, location_cmp, location_of};
-ghost use Rattle.mol_table.specs.Faults.{address};
+ghost use Rattle.mol_table_rules.specs.Faults.{address};
 
 use crate::pair_faults::address::Address;
-use crate::pair_faults::entity_address::entity_address;
+use crate::pair_faults::addresses::entity_address;
 use mol_base::{Id, OutOfMemory};
 use mol_table::Table;
 use std::alloc::Global;

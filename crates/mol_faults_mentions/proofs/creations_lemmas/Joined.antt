@@ -1,9 +1,9 @@
 -- Lists of what the items of a list create, joined.
 use Rattle.std.proofs.Common.{◌≡◌, List, [], ◌∷◌, ◌++◌, map, refl, ap}
 use Rattle.mol_spell_rules.specs.DefaultCreations.{expr_step, argument_step, Classes, joined, expr_creations, exprs_creations, arguments_creations}
-use Rattle.mol_values.specs.declared.iexpr.Argument.{Argument}
-use Rattle.mol_values.specs.declared.iexpr.IExpr.{IExpr}
-use Rattle.mol_values.specs.declared.iexpr.IExpr.TheFolds.{fold-roll-Argument}
+use Rattle.mol_values_types.specs.declared.iexpr.Argument.{Argument}
+use Rattle.mol_values_types.specs.declared.iexpr.IExpr.{IExpr}
+use Rattle.mol_values_types.specs.declared.iexpr.IExpr.TheFolds.{fold-roll-Argument}
 use Rattle.mol_faults_mentions.specs.creations.Parts.{argument_creations}
 
 pub exprs_joined : (es : List IExpr) → joined (map expr_creations es) ≡ exprs_creations es

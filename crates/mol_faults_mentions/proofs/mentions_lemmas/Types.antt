@@ -1,12 +1,12 @@
 -- What a type mentions, by what it is.
 use Rattle.std.proofs.Common.{◌≡◌, ℕ, List, [], sym, ap, ◌∙◌}
 use Rattle.mol_base.specs.declared.ident.Id.{Id}
-use Rattle.mol_table.specs.Mentions.{Mention, a_class, named, type_mentions, type_step}
-use Rattle.mol_values.specs.declared.itype.IType.{IType}
-use Rattle.mol_values.specs.declared.itype.IType.TheFolds.{fold-roll-IType, map-IType}
-use Rattle.mol_values.specs.declared.itype.IType.TheOpen.{IType-F}
-use Rattle.mol_values.specs.declared.itype.IType.TheVariants as kinds
-use Rattle.mol_values.specs.declared.itype.IType.TheViews.{roll-IType}
+use Rattle.mol_table_rules.specs.Mentions.{Mention, a_class, named, type_mentions, type_step}
+use Rattle.mol_values_types.specs.declared.itype.IType.{IType}
+use Rattle.mol_values_types.specs.declared.itype.IType.TheFolds.{fold-roll-IType, map-IType}
+use Rattle.mol_values_types.specs.declared.itype.IType.TheOpen.{IType-F}
+use Rattle.mol_values_types.specs.declared.itype.IType.TheVariants as kinds
+use Rattle.mol_values_types.specs.declared.itype.IType.TheViews.{roll-IType}
 
 abbrev Name : Type 0
 Name = List ℕ

@@ -2,12 +2,12 @@
 use Rattle.std.specs.Prelude.{List}
 use Rattle.std.specs.List.{flat_map}
 use Rattle.mol_spell_rules.specs.DefaultCreations.{Classes, expr_step, argument_step, maybe_creations, else_step, node_step, block_step, if_step, statement_step}
-use Rattle.mol_values.specs.declared.iblock.IDeclarator.{IDeclarator}
-use Rattle.mol_values.specs.declared.iblock.IElse.{IElse, fold-IElse}
-use Rattle.mol_values.specs.declared.iblock.IIf.{IIf, fold-IIf}
-use Rattle.mol_values.specs.declared.iblock.IStmt.{IStmt, fold-IStmt}
-use Rattle.mol_values.specs.declared.iblock.IStmtNode.{IStmtNode, fold-IStmtNode}
-use Rattle.mol_values.specs.declared.iexpr.Argument.{Argument, fold-Argument}
+use Rattle.mol_values_types.specs.declared.iblock.IDeclarator.{IDeclarator}
+use Rattle.mol_values_types.specs.declared.iblock.IElse.{IElse, fold-IElse}
+use Rattle.mol_values_types.specs.declared.iblock.IIf.{IIf, fold-IIf}
+use Rattle.mol_values_types.specs.declared.iblock.IStmt.{IStmt, fold-IStmt}
+use Rattle.mol_values_types.specs.declared.iblock.IStmtNode.{IStmtNode, fold-IStmtNode}
+use Rattle.mol_values_types.specs.declared.iexpr.Argument.{Argument, fold-Argument}
 
 abbrev pub argument_creations : Argument → Classes
 argument_creations = fold-Argument Classes Classes expr_step argument_step

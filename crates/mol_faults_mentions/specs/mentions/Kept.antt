@@ -2,7 +2,7 @@
 use Rattle.mol_faults_mentions.specs.declared.mentions.mention.Mention.{Mention as Kept}
 use Rattle.mol_faults_mentions.specs.declared.mentions.mention.Role.{Role as KeptRole}
 use Rattle.mol_faults_mentions.specs.declared.mentions.mention.Role.TheVariants as roles
-use Rattle.mol_table.specs.Mentions.{Mention, Role, a_class, a_field, a_method, a_called_method, a_static_method, a_constructor, a_param, a_listed_param}
+use Rattle.mol_table_rules.specs.Mentions.{Mention, Role, a_class, a_field, a_method, a_called_method, a_static_method, a_constructor, a_param, a_listed_param}
 
 abbrev pub kept_role : KeptRole → Role
 kept_role roles.Class = a_class

@@ -1,14 +1,14 @@
 -- What parts of expressions and bodies mention.
 use Rattle.std.specs.Prelude.{List, map}
 use Rattle.std.specs.List.{flat_map}
-use Rattle.mol_table.specs.Mentions.{Mention, joined, expr_mentions, maybe_mentions, expr_step, argument_step, else_step, node_step, block_step, if_step, statement_step}
-use Rattle.mol_values.specs.declared.iblock.IDeclarator.{IDeclarator}
-use Rattle.mol_values.specs.declared.iblock.IElse.{IElse, fold-IElse}
-use Rattle.mol_values.specs.declared.iblock.IIf.{IIf, fold-IIf}
-use Rattle.mol_values.specs.declared.iblock.IStmt.{IStmt, fold-IStmt}
-use Rattle.mol_values.specs.declared.iblock.IStmtNode.{IStmtNode, fold-IStmtNode}
-use Rattle.mol_values.specs.declared.iexpr.Argument.{Argument, fold-Argument}
-use Rattle.mol_values.specs.declared.iexpr.IExpr.{IExpr}
+use Rattle.mol_table_rules.specs.Mentions.{Mention, joined, expr_mentions, maybe_mentions, expr_step, argument_step, else_step, node_step, block_step, if_step, statement_step}
+use Rattle.mol_values_types.specs.declared.iblock.IDeclarator.{IDeclarator}
+use Rattle.mol_values_types.specs.declared.iblock.IElse.{IElse, fold-IElse}
+use Rattle.mol_values_types.specs.declared.iblock.IIf.{IIf, fold-IIf}
+use Rattle.mol_values_types.specs.declared.iblock.IStmt.{IStmt, fold-IStmt}
+use Rattle.mol_values_types.specs.declared.iblock.IStmtNode.{IStmtNode, fold-IStmtNode}
+use Rattle.mol_values_types.specs.declared.iexpr.Argument.{Argument, fold-Argument}
+use Rattle.mol_values_types.specs.declared.iexpr.IExpr.{IExpr}
 
 -- ---- several, within an expression
 

@@ -5,7 +5,7 @@ ghost use Rattle.mol_faults_mentions.specs.creations.Parts.{else_creations, if_c
 
 use crate::creations::exprs::{add_expr, add_exprs, add_maybe, add_values};
 use mol_base::{Id, OutOfMemory};
-use mol_values::{IBlock, IDeclarator, IElse, IExpr, IForStart, IIf, ILet, IStmt, IStmtNode};
+use mol_values_types::{IBlock, IDeclarator, IElse, IExpr, IForStart, IIf, ILet, IStmt, IStmtNode};
 
 /// Adds what the statements of a block create by default constructors.
 #[cycle(block_creations)]

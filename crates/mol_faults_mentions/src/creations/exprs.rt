@@ -4,7 +4,7 @@ ghost use Rattle.mol_spell_rules.specs.DefaultCreations.{arguments_creations, ex
 ghost use Rattle.mol_faults_mentions.specs.creations.Parts.{argument_creations};
 
 use mol_base::{Id, OutOfMemory};
-use mol_values::{Argument, IExpr};
+use mol_values_types::{Argument, IExpr};
 
 /// Adds the classes that an expression creates by their default constructors.
 #[cycle(expr_creations)]

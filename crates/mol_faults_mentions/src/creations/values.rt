@@ -5,7 +5,7 @@ ghost use Rattle.mol_spell_rules.specs.DefaultCreations.{default_creations, mayb
 use crate::creations::bodies::add_block;
 use crate::creations::exprs::add_maybe;
 use mol_base::{Id, OutOfMemory};
-use mol_values::Value;
+use mol_values_types::Value;
 use std::alloc::Global;
 
 /// The classes that a value creates by their default constructors (JLS 8.8.9, 15.9), each as often as it does so and in the order in which

@@ -1,13 +1,13 @@
 //! What bodies, blocks and statements mention.
 ghost use Rattle.std.specs.Prelude.{◌≡◌, ◌++◌, OnOk};
 ghost use Rattle.mol_faults_mentions.specs.mentions.Parts.{each_expr, else_mentions, if_mentions, names_mentions, node_mentions, statement_mentions, statements_mentions};
-ghost use Rattle.mol_table.specs.Mentions.{block_mentions, body_mentions, expr_mentions, let_mentions, maybe_mentions, start_mentions, type_mentions};
+ghost use Rattle.mol_table_rules.specs.Mentions.{block_mentions, body_mentions, expr_mentions, let_mentions, maybe_mentions, start_mentions, type_mentions};
 
 use crate::mentions::expressions::{add_all, add_call, add_expr, add_maybe, add_type};
 use crate::mentions::mention::Role;
 use crate::mentions::mentions::Mentions;
 use mol_base::OutOfMemory;
-use mol_values::{
+use mol_values_types::{
     IBlock, IBody, IDeclarator, IElse, IExpr, IForStart, IIf, ILet, IStmt, IStmtNode, IType,
 };
 

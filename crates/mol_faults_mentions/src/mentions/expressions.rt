@@ -2,12 +2,12 @@
 ghost use Rattle.std.specs.Prelude.{◌≡◌, ◌++◌, OnOk};
 ghost use Rattle.mol_faults_mentions.specs.mentions.Kept.{kept_role};
 ghost use Rattle.mol_faults_mentions.specs.mentions.Parts.{argument_mentions, each_argument, each_expr};
-ghost use Rattle.mol_table.specs.Mentions.{a_called_method, expr_mentions, maybe_mentions, named, parent_mentions, type_mentions};
+ghost use Rattle.mol_table_rules.specs.Mentions.{a_called_method, expr_mentions, maybe_mentions, named, parent_mentions, type_mentions};
 
 use crate::mentions::mention::Role;
 use crate::mentions::mentions::Mentions;
 use mol_base::{Id, OutOfMemory};
-use mol_values::{Argument, IExpr, IType};
+use mol_values_types::{Argument, IExpr, IType};
 
 /// Adds what a type mentions.
 pub(crate) fn add_type(mentions: &mut Mentions, ty: &IType) -> Result<(), OutOfMemory>

@@ -1,7 +1,7 @@
 //! Mentions that are gathered.
 ghost use Rattle.std.specs.Prelude.{◌≡◌, ◌++◌, [], OnOk, map};
 ghost use Rattle.mol_faults_mentions.specs.mentions.Kept.{kept_mention, kept_role};
-ghost use Rattle.mol_table.specs.Mentions.{named};
+ghost use Rattle.mol_table_rules.specs.Mentions.{named};
 
 use crate::mentions::mention::{Mention, Role};
 use mol_base::{Id, OutOfMemory};
@@ -16,7 +16,7 @@ pub struct Mentions {
 
 impl Model for Mentions {
     ghost use Rattle.mol_faults_mentions.specs.mentions.Kept.{kept_mention};
-    ghost use Rattle.mol_table.specs.Mentions.{Mention as Mentioned};
+    ghost use Rattle.mol_table_rules.specs.Mentions.{Mention as Mentioned};
     ghost use Rattle.std.specs.Prelude.{List, map};
 
     ghost Value = { List Mentioned };

@@ -1,14 +1,14 @@
 //! What the values of cells mention.
 ghost use Rattle.std.specs.Prelude.{◌≡◌, ◌++◌, IfOk, OnOk};
 ghost use Rattle.std.specs.List.{flat_map};
-ghost use Rattle.mol_table.specs.Mentions.{maybe_mentions, mentions as mentioned, param_mentions, type_mentions};
+ghost use Rattle.mol_table_rules.specs.Mentions.{maybe_mentions, mentions as mentioned, param_mentions, type_mentions};
 
 use crate::mentions::body::add_body;
 use crate::mentions::expressions::{add_maybe, add_parent, add_type};
 use crate::mentions::mention::Role;
 use crate::mentions::mentions::Mentions;
 use mol_base::OutOfMemory;
-use mol_values::{IExpr, IType, Param, Value};
+use mol_values_types::{IExpr, IType, Param, Value};
 use std::alloc::Global;
 
 /// What the value of a cell mentions, as often and in the order in which its words name it. The parameters to which a call gives its

@@ -14,12 +14,12 @@ use Rattle.mol_resolve_rules.specs.ProgramViews.{seen}
 use Rattle.mol_spell_rules.specs.SpelledStatements.{Spells, declarator, declared_type, declaring_none, each, maybe_expr, spelled_let, spelled_start, then_next}
 use Rattle.mol_spell_rules.specs.SpelledTypes.{SpelledType}
 use Rattle.mol_spell_rules.specs.Writers.{Writer}
-use Rattle.mol_values.specs.declared.iblock.IDeclarator.{IDeclarator}
-use Rattle.mol_values.specs.declared.iblock.IForStart.{IForStart}
-use Rattle.mol_values.specs.declared.iblock.IForStart.TheVariants as starts
-use Rattle.mol_values.specs.declared.iblock.ILet.{ILet}
-use Rattle.mol_values.specs.declared.iexpr.IExpr.{IExpr}
-use Rattle.mol_values.specs.declared.itype.IType.{IType}
+use Rattle.mol_values_types.specs.declared.iblock.IDeclarator.{IDeclarator}
+use Rattle.mol_values_types.specs.declared.iblock.IForStart.{IForStart}
+use Rattle.mol_values_types.specs.declared.iblock.IForStart.TheVariants as starts
+use Rattle.mol_values_types.specs.declared.iblock.ILet.{ILet}
+use Rattle.mol_values_types.specs.declared.iexpr.IExpr.{IExpr}
+use Rattle.mol_values_types.specs.declared.itype.IType.{IType}
 
 module _ (writer : Writer) where
   pub maybe-locals : (e : Option IExpr) (locals : Locals Id) → (maybe_expr writer e locals).locals ≡ locals

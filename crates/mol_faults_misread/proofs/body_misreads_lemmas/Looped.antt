@@ -15,9 +15,9 @@ use Rattle.mol_spell_rules.specs.SpelledExpressions.{alone, spelled_expr}
 use Rattle.mol_spell_rules.specs.SpelledStatements.{Spells, declared_type, declaring, declaring_none, each_body, header, one_expr, spelled_block, then_next}
 use Rattle.mol_spell_rules.specs.SpelledTypes.{SpelledType}
 use Rattle.mol_spell_rules.specs.Writers.{Writer}
-use Rattle.mol_values.specs.declared.iblock.IBlock.{IBlock}
-use Rattle.mol_values.specs.declared.iexpr.IExpr.{IExpr}
-use Rattle.mol_values.specs.declared.itype.IType.{IType}
+use Rattle.mol_values_types.specs.declared.iblock.IBlock.{IBlock}
+use Rattle.mol_values_types.specs.declared.iexpr.IExpr.{IExpr}
+use Rattle.mol_values_types.specs.declared.itype.IType.{IType}
 
 module _ (writer : Writer) (locals : Locals Id) where
   -- ---- the test and the steps

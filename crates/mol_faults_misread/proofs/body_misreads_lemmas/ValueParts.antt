@@ -9,12 +9,12 @@ use Rattle.mol_resolve_rules.specs.Locals.{Locals, no_locals}
 use Rattle.mol_spell_rules.specs.SpelledStatements.{spelled_block, spelled_body}
 use Rattle.mol_spell_rules.specs.UnitCells.{first_value_references, references_in}
 use Rattle.mol_spell_rules.specs.Writers.{Writer}
-use Rattle.mol_values.specs.declared.iblock.IBody.{IBody}
-use Rattle.mol_values.specs.declared.iexpr.IExpr.{IExpr}
-use Rattle.mol_values.specs.declared.itype.IType.{IType}
-use Rattle.mol_values.specs.declared.param.Param.{Param}
-use Rattle.mol_values.specs.declared.value.Value.{Value}
-use Rattle.mol_values.specs.declared.value.Value.TheVariants as values
+use Rattle.mol_values_types.specs.declared.iblock.IBody.{IBody}
+use Rattle.mol_values_types.specs.declared.iexpr.IExpr.{IExpr}
+use Rattle.mol_values_types.specs.declared.itype.IType.{IType}
+use Rattle.mol_values_types.specs.declared.param.Param.{Param}
+use Rattle.mol_values_types.specs.declared.value.Value.{Value}
+use Rattle.mol_values_types.specs.declared.value.Value.TheVariants as values
 
 module _ (writer : Writer) where
   -- of a body, with no locals before it

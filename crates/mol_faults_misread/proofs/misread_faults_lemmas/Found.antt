@@ -23,12 +23,12 @@ use Rattle.mol_spell_rules.specs.NameFaults.{Misread, MisreadIn, is_gone, unit_r
 use Rattle.mol_spell_rules.specs.SimpleNames.{imports_in, is_simple_in, unit_references, unit_writer}
 use Rattle.mol_spell_rules.specs.UnitCells.{printed_cells}
 use Rattle.mol_spell_rules.specs.Writers.{Reference, Writer}
-use Rattle.mol_table.specs.Identities.{AreKnown}
-use Rattle.mol_table.specs.Program.{Program, living_at}
-use Rattle.mol_table.specs.Renumber.{is_class, is_living_class}
-use Rattle.mol_table.specs.Tidy.{tidy}
-use Rattle.mol_values.specs.declared.cell.Cell.{Cell}
-use Rattle.mol_values.specs.declared.known.Known.{Known}
+use Rattle.mol_table_rules.specs.Identities.{AreKnown}
+use Rattle.mol_table_rules.specs.Program.{Program, living_at}
+use Rattle.mol_table_rules.specs.Renumber.{is_class, is_living_class}
+use Rattle.mol_table_rules.specs.Tidy.{tidy}
+use Rattle.mol_values_types.specs.declared.cell.Cell.{Cell}
+use Rattle.mol_values_types.specs.declared.known.Known.{Known}
 
 -- ---- a reference
 

@@ -8,10 +8,10 @@ use Rattle.std.specs.Ordering.{eq_by_cmp}
 use Rattle.mol_faults_misread.proofs.misread_faults_lemmas.SameRows.{is-equal, number-same}
 use Rattle.mol_faults_misread.specs.misread_faults.Found.{Found, is_name, same_target}
 use Rattle.mol_spell_rules.specs.FaultList.{FaultTarget, entity, default_of, local_of, outside_of}
-use Rattle.mol_table.proofs.CellOrder.{cell_cmp-IsAntisymmetric, cell_cmp-total}
-use Rattle.mol_table.proofs.Living.{same_id-own, id_tied}
-use Rattle.mol_values.specs.Order.{cell_cmp}
-use Rattle.mol_values.specs.declared.cell.Cell.{Cell}
+use Rattle.mol_table_rules.proofs.CellOrder.{cell_cmp-IsAntisymmetric, cell_cmp-total}
+use Rattle.mol_table_rules.proofs.Living.{same_id-own, id_tied}
+use Rattle.mol_values_types.specs.Order.{cell_cmp}
+use Rattle.mol_values_types.specs.declared.cell.Cell.{Cell}
 
 number-own : (number : ℕ) → (number == number) ≡ true
 number-own number = by (eqb_tells number number) where

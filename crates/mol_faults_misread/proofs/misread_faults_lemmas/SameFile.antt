@@ -12,9 +12,9 @@ use Rattle.mol_spell_names.specs.declared.simple_names.simple_names.SimpleNames.
 use Rattle.mol_spell_rules.specs.SimpleNames.{imports_by, is_simple_by}
 use Rattle.mol_spell_rules.specs.UnitCells.{member_cells, printed_cells}
 use Rattle.mol_spell_rules.specs.Writers.{Importable}
-use Rattle.mol_table.specs.Program.{Program}
-use Rattle.mol_values.specs.declared.cell.Cell.{Cell}
-use Rattle.mol_values.specs.declared.known.Known.{Known}
+use Rattle.mol_table_rules.specs.Program.{Program}
+use Rattle.mol_values_types.specs.declared.cell.Cell.{Cell}
+use Rattle.mol_values_types.specs.declared.known.Known.{Known}
 
 -- a file with these simple names, and the imports that go with them
 pub same-file : (names : SimpleNames) (program : Program) (class : Id) (imports : Names) → AreNamesOf program class names

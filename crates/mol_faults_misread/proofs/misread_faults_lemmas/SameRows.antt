@@ -17,11 +17,11 @@ use Rattle.mol_faults_misread.specs.declared.misread_faults.row.Named.TheVariant
 use Rattle.mol_faults_misread.specs.declared.misread_faults.row.Row.{Row}
 use Rattle.mol_faults_values.proofs.missing_faults_lemmas.Slots.{slot_cmp, slots-alike}
 use Rattle.mol_spell_rules.specs.FaultList.{FaultKey, fault_cmp, fault_key, fault_key_cmp, misread, no_id, pair_key, target_key}
-use Rattle.mol_table.proofs.CellOrder.{cell_cmp-IsAntisymmetric}
-use Rattle.mol_table.proofs.Living.{id_tied}
-use Rattle.mol_values.proofs.Ties.{cell_eq, cell_ties, id_ties}
-use Rattle.mol_values.specs.Order.{cell_cmp, slot_number}
-use Rattle.mol_values.specs.declared.cell.Cell.{Cell}
+use Rattle.mol_table_rules.proofs.CellOrder.{cell_cmp-IsAntisymmetric}
+use Rattle.mol_table_rules.proofs.Living.{id_tied}
+use Rattle.mol_values_types.proofs.Ties.{cell_eq, cell_ties, id_ties}
+use Rattle.mol_values_types.specs.Order.{cell_cmp, slot_number}
+use Rattle.mol_values_types.specs.declared.cell.Cell.{Cell}
 
 -- ---- equal rows
 

@@ -11,11 +11,11 @@ use Rattle.mol_resolve_rules.specs.ProgramReaders.{class_reader, parameter_in}
 use Rattle.mol_resolve_rules.specs.Readers.{Parameter, param_names}
 use Rattle.mol_spell_rules.specs.UnitCells.{cell_reader, cell_writer, reader_as}
 use Rattle.mol_spell_rules.specs.Writers.{Importable, Writer}
-use Rattle.mol_table.specs.Program.{Program, params_at}
-use Rattle.mol_values.specs.declared.cell.Cell.{Cell}
-use Rattle.mol_values.specs.declared.known.Known.{Known}
-use Rattle.mol_values.specs.declared.known.Known.TheVariants as knowns
-use Rattle.mol_values.specs.declared.param.Param.{Param}
+use Rattle.mol_table_rules.specs.Program.{Program, params_at}
+use Rattle.mol_values_types.specs.declared.cell.Cell.{Cell}
+use Rattle.mol_values_types.specs.declared.known.Known.{Known}
+use Rattle.mol_values_types.specs.declared.known.Known.TheVariants as knowns
+use Rattle.mol_values_types.specs.declared.param.Param.{Param}
 
 module _ (program : Program) (imports : Names) (class : Id) where
   -- the reader in a scope

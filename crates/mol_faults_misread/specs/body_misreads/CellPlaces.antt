@@ -5,7 +5,7 @@ use Rattle.mol_faults_misread.specs.declared.body_misreads.cell_place.CellPlace.
 use Rattle.mol_resolve_rules.specs.ProgramReaders.{class_reader, parameter_in}
 use Rattle.mol_resolve_rules.specs.Readers.{Reader, param_names}
 use Rattle.mol_spell_rules.specs.Writers.{Writer}
-use Rattle.mol_table.specs.Program.{Program}
+use Rattle.mol_table_rules.specs.Program.{Program}
 
 -- the program whose names are read
 abbrev pub program_at : CellPlace → Program

@@ -8,9 +8,9 @@ use Rattle.mol_resolve_rules.specs.Locals.{Locals, no_locals}
 use Rattle.mol_spell_rules.specs.SpelledExpressions.{plain}
 use Rattle.mol_spell_rules.specs.SpelledStatements.{declared_type, maybe_expr}
 use Rattle.mol_spell_rules.specs.Writers.{Reference, Writer, super_constructor_asked}
-use Rattle.mol_values.specs.declared.iexpr.IExpr.{IExpr}
-use Rattle.mol_values.specs.declared.itype.IType.{IType}
-use Rattle.mol_values.specs.declared.param.Param.{Param}
+use Rattle.mol_values_types.specs.declared.iexpr.IExpr.{IExpr}
+use Rattle.mol_values_types.specs.declared.itype.IType.{IType}
+use Rattle.mol_values_types.specs.declared.param.Param.{Param}
 
 module _ (writer : Writer) (locals : Locals Id) where
   -- of the type of a declaration

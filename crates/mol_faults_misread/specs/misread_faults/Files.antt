@@ -4,7 +4,7 @@ use Rattle.mol_base.specs.declared.ident.Id.{Id}
 use Rattle.mol_spell_names.specs.simple_names.Named.{uses_of_file}
 use Rattle.mol_spell_names.specs.declared.simple_names.simple_names.SimpleNames.{SimpleNames}
 use Rattle.mol_spell_rules.specs.SimpleNames.{uses_in}
-use Rattle.mol_table.specs.Program.{Program}
+use Rattle.mol_table_rules.specs.Program.{Program}
 
 -- These are the simple names in the file, by what its names use.
 pub record AreNamesOf (program : Program) (class : Id) (names : SimpleNames) : Type 0 where

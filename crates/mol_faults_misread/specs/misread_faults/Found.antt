@@ -21,11 +21,11 @@ use Rattle.mol_spell_rules.specs.ReadInstead.{instead}
 use Rattle.mol_spell_rules.specs.SimpleNames.{imports_in, is_simple_in}
 use Rattle.mol_spell_rules.specs.UnitCells.{cell_writer, member_cells, printed_cells, references_at}
 use Rattle.mol_spell_rules.specs.Writers.{Importable, Writer}
-use Rattle.mol_table.specs.Program.{Program, same_id}
-use Rattle.mol_table.specs.Renumber.{is_living_class}
-use Rattle.mol_values.specs.Order.{cell_cmp}
-use Rattle.mol_values.specs.declared.cell.Cell.{Cell}
-use Rattle.mol_values.specs.declared.known.Known.{Known}
+use Rattle.mol_table_rules.specs.Program.{Program, same_id}
+use Rattle.mol_table_rules.specs.Renumber.{is_living_class}
+use Rattle.mol_values_types.specs.Order.{cell_cmp}
+use Rattle.mol_values_types.specs.declared.cell.Cell.{Cell}
+use Rattle.mol_values_types.specs.declared.known.Known.{Known}
 
 -- ---- rows
 

@@ -3,10 +3,10 @@ use Rattle.std.specs.Prelude.{Bool, false, List, [], Option, Some}
 use Rattle.std.specs.FinMap.{get}
 use Rattle.jav_names.specs.LookUps.{is_constructor}
 use Rattle.mol_resolve_rules.specs.ProgramViews.{kind_in}
-use Rattle.mol_table.specs.Program.{Program, params_at}
-use Rattle.mol_values.specs.declared.known.Known.{Known}
-use Rattle.mol_values.specs.declared.known.Known.TheVariants as knowns
-use Rattle.mol_values.specs.declared.param.Param.{Param}
+use Rattle.mol_table_rules.specs.Program.{Program, params_at}
+use Rattle.mol_values_types.specs.declared.known.Known.{Known}
+use Rattle.mol_values_types.specs.declared.known.Known.TheVariants as knowns
+use Rattle.mol_values_types.specs.declared.param.Param.{Param}
 
 module _ (program : Program) where
   -- the parameters of the method of a declaration

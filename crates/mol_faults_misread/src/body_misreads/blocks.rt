@@ -10,7 +10,7 @@ use crate::body_misreads::body_reader::BodyReader;
 use mol_base::OutOfMemory;
 use mol_faults_expr::Misreads;
 use mol_spell_places::{BodyLocals, Places};
-use mol_values::{IBlock, IStmt, IStmtNode};
+use mol_values_types::{IBlock, IStmt, IStmtNode};
 
 impl<'a, P: Places> BodyReader<'a, '_, P> {
     /// Notes the names of a block. What it declares is in scope up to its end.

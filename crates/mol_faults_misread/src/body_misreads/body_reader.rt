@@ -10,7 +10,7 @@ use crate::body_misreads::cell_place::CellPlace;
 use mol_base::OutOfMemory;
 use mol_faults_expr::{Misreads, NamePlace, VariablePlace};
 use mol_spell_places::{BodyLocals, Places};
-use mol_values::IBody;
+use mol_values_types::IBody;
 use std::alloc::Global;
 
 /// Reads the names in a cell of a program as they are printed: how they are written is asked of `places`, and they are read at this place,

@@ -10,7 +10,7 @@ use crate::body_misreads::body_reader::BodyReader;
 use mol_base::OutOfMemory;
 use mol_faults_expr::Misreads;
 use mol_spell_places::{BodyLocals, Places};
-use mol_values::{IBlock, IElse, IExpr, IIf};
+use mol_values_types::{IBlock, IElse, IExpr, IIf};
 
 impl<'a, P: Places> BodyReader<'a, '_, P> {
     /// Notes the names of an `if`.

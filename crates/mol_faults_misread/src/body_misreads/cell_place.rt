@@ -3,7 +3,7 @@ use jav_scope::ImportIndex;
 use mol_base::Id;
 use mol_faults_expr::MemberIndex;
 use mol_spell_places::ParamNames;
-use mol_values::Param;
+use mol_values_types::Param;
 
 /// A place in the file of a class of a table where the names in a cell are read, but for the locals in scope. The class need not live.
 #[derive(Clone, Copy)]

@@ -10,7 +10,7 @@ use crate::body_misreads::body_reader::BodyReader;
 use mol_base::OutOfMemory;
 use mol_faults_expr::Misreads;
 use mol_spell_places::{BodyLocals, Places};
-use mol_values::{IDeclarator, IForStart, ILet, IType};
+use mol_values_types::{IDeclarator, IForStart, ILet, IType};
 
 impl<'a, P: Places> BodyReader<'a, '_, P> {
     /// Notes the names of a declaration of variables of one type.

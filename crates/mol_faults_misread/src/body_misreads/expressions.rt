@@ -11,7 +11,7 @@ use mol_base::OutOfMemory;
 use mol_faults_expr::{ExprReader, Misreads};
 use mol_spell_expr::TypePlace;
 use mol_spell_places::{BodyLocals, InBody, Places};
-use mol_values::{Argument, IExpr, IType};
+use mol_values_types::{Argument, IExpr, IType};
 
 impl<'a, P: Places> BodyReader<'a, '_, P> {
     /// Notes the names of an expression.

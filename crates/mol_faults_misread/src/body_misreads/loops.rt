@@ -11,7 +11,7 @@ use crate::body_misreads::body_reader::BodyReader;
 use mol_base::{OutOfMemory, Text};
 use mol_faults_expr::Misreads;
 use mol_spell_places::{BodyLocals, Places};
-use mol_values::{IBlock, IExpr, IForStart, IType};
+use mol_values_types::{IBlock, IExpr, IForStart, IType};
 
 impl<'a, P: Places> BodyReader<'a, '_, P> {
     /// Notes the names of a `for` with a start, a test and steps. What its start declares is in scope up to its end.

@@ -12,7 +12,7 @@ use crate::body_misreads::body_reader::BodyReader;
 use mol_base::{Id, OutOfMemory};
 use mol_faults_expr::{ExprReader, Misreads, Target};
 use mol_spell_places::{BodyLocals, InBody, Places};
-use mol_values::{Argument, IExpr};
+use mol_values_types::{Argument, IExpr};
 
 impl<'a, P: Places> BodyReader<'a, '_, P> {
     /// Notes a constructor of the superclass, and the names of its arguments.

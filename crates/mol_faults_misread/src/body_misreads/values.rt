@@ -5,13 +5,13 @@ ghost use Rattle.mol_faults_misread.specs.body_misreads.PartReferences.{declared
 ghost use Rattle.mol_faults_expr.specs.Noted.{noted_after};
 ghost use Rattle.mol_resolve_rules.specs.Locals.{no_locals};
 ghost use Rattle.mol_spell_rules.specs.UnitCells.{references_in};
-ghost use Rattle.mol_values.specs.declared.value.Value.TheVariants as values;
+ghost use Rattle.mol_values_types.specs.declared.value.Value.TheVariants as values;
 
 use crate::body_misreads::body_reader::BodyReader;
 use mol_base::OutOfMemory;
 use mol_faults_expr::Misreads;
 use mol_spell_places::{BodyLocals, Places};
-use mol_values::{IBody, IExpr, IType, Param, Value};
+use mol_values_types::{IBody, IExpr, IType, Param, Value};
 
 impl<'a, P: Places> BodyReader<'a, '_, P> {
     /// Notes the names in the value of a cell, in the order in which they print; nothing where the cell has no value. The time is linear

@@ -6,8 +6,8 @@ ghost use Rattle.mol_faults_expr.specs.Kept.{kept_misread};
 ghost use Rattle.mol_faults_expr.specs.Noted.{none_noted, noted_after};
 ghost use Rattle.mol_faults_misread.specs.misread_faults.Found.{cell_misreads, found_at, kept_name, member_misreads, members_misreads};
 ghost use Rattle.mol_spell_rules.specs.UnitCells.{cell_writer, references_at};
-ghost use Rattle.mol_table.specs.Program.{cell};
-ghost use Rattle.mol_values.specs.declared.known.Known.TheVariants as knowns;
+ghost use Rattle.mol_table_rules.specs.Program.{cell};
+ghost use Rattle.mol_values_types.specs.declared.known.Known.TheVariants as knowns;
 
 use crate::body_misreads::{BodyReader, CellPlace};
 use crate::misread_faults::names::MisreadName;
@@ -17,7 +17,7 @@ use mol_base::{Id, OutOfMemory};
 use mol_faults_expr::{Misread, Misreads};
 use mol_scope_classes::ClassMember;
 use mol_spell_names::{BodyNames, FileNames, MemberIndex};
-use mol_values::{Cell, Known, Slot};
+use mol_values_types::{Cell, Known, Slot};
 use std::alloc::Global;
 
 /// The source file of a class, its simple names and its imports. `Err` of its calls is want of memory.

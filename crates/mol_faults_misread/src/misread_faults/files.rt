@@ -13,7 +13,7 @@ use mol_base::{Id, OutOfMemory};
 use mol_scope_classes::ClassMembers;
 use mol_spell_names::{FileNames, MemberIndex, ProgramIndex, SimpleNames};
 use mol_spell_uses::Uses;
-use mol_values::Slot;
+use mol_values_types::Slot;
 use std::alloc::Global;
 
 /// What is misread in the files of those classes among these identities that live.

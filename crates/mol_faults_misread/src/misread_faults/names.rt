@@ -3,14 +3,14 @@ ghost use Rattle.std.specs.Prelude.{◌≡◌, ◌==◌, ◌&&◌, ◌↔◌, Co
 ghost use Rattle.mol_faults_rules.specs.Kept.{kept_target};
 ghost use Rattle.mol_faults_misread.specs.misread_faults.Found.{Found, IsMisread, is_name, kept_name, same_target};
 ghost use Rattle.mol_spell_rules.specs.FaultList.{default_of, entity, local_of, outside_of};
-ghost use Rattle.mol_table.specs.Program.{same_id};
+ghost use Rattle.mol_table_rules.specs.Program.{same_id};
 
 use crate::misread_faults::files::names_in;
 use mol_base::{Id, OutOfMemory, Text};
 use mol_faults_expr::Misread;
 use mol_faults_rules::Target;
 use mol_spell_names::ProgramIndex;
-use mol_values::Cell;
+use mol_values_types::Cell;
 use std::alloc::Global;
 
 /// A name in a cell that reads as something else than what it is the name of, in the file of a class.

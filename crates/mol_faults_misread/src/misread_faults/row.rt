@@ -5,7 +5,7 @@ ghost use Rattle.mol_faults_misread.specs.misread_faults.Found.{fault_of, named_
 
 use mol_base::{Id, Text};
 use mol_faults_rules::{Fault, Target};
-use mol_values::Cell;
+use mol_values_types::Cell;
 
 /// A name in a cell that is misread: its number among those that print, from 0, and what it is the name of. The order is that of faults.
 #[derive(PartialEq, Eq, PartialOrd, Ord, Drop)]

@@ -6,7 +6,7 @@ ghost use Rattle.mol_faults_misread.specs.misread_faults.Scopes.{in_constructor,
 use mol_base::Id;
 use mol_scope_classes::{is_constructor, params_of};
 use mol_table::Table;
-use mol_values::{Known, Param};
+use mol_values_types::{Known, Param};
 
 /// The parameters in scope in the cells of an entity: those of the method of a declaration, and none in any other. It takes no memory.
 pub(crate) fn params_in_scope<'a>(table: &'a Table, id: &Id) -> &'a [Param]

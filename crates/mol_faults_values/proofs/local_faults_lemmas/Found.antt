@@ -19,17 +19,17 @@ use Rattle.mol_resolve_rules.proofs.Stands.{in_front, behind, in_either, in_each
 use Rattle.mol_spell_rules.specs.FaultList.{entity, default_of, local_of, outside_of, Fault, same_address, false_override, apart, outside_name, missing, misread, local_clash, package_is_class, IsFault, by_local, fault_key, fault_cmp}
 use Rattle.mol_spell_rules.specs.LocalClashes.{clashes_in, IsRepeated}
 use Rattle.mol_spell_rules.specs.NameFaults.{param_names, ClashesInBody, LocalClash}
-use Rattle.mol_table.specs.Counting.{living_as, living_of}
-use Rattle.mol_table.specs.Identities.{AreKnown}
-use Rattle.mol_table.specs.Program.{Program, value_at, params_at, living_at, cell}
-use Rattle.mol_values.specs.declared.cell.Cell.{Cell}
-use Rattle.mol_values.specs.declared.cell.Slot.TheVariants as slots
-use Rattle.mol_values.specs.declared.iblock.IBody.{IBody}
-use Rattle.mol_values.specs.declared.known.Known.{Known}
-use Rattle.mol_values.specs.declared.known.Known.TheVariants as knowns
-use Rattle.mol_values.specs.declared.param.Param.{Param}
-use Rattle.mol_values.specs.declared.value.Value.{Value}
-use Rattle.mol_values.specs.declared.value.Value.TheVariants as values
+use Rattle.mol_table_rules.specs.Counting.{living_as, living_of}
+use Rattle.mol_table_rules.specs.Identities.{AreKnown}
+use Rattle.mol_table_rules.specs.Program.{Program, value_at, params_at, living_at, cell}
+use Rattle.mol_values_types.specs.declared.cell.Cell.{Cell}
+use Rattle.mol_values_types.specs.declared.cell.Slot.TheVariants as slots
+use Rattle.mol_values_types.specs.declared.iblock.IBody.{IBody}
+use Rattle.mol_values_types.specs.declared.known.Known.{Known}
+use Rattle.mol_values_types.specs.declared.known.Known.TheVariants as knowns
+use Rattle.mol_values_types.specs.declared.param.Param.{Param}
+use Rattle.mol_values_types.specs.declared.value.Value.{Value}
+use Rattle.mol_values_types.specs.declared.value.Value.TheVariants as values
 
 -- rows go by declaration, and then by name
 abbrev pub clash_cmp : Clash → Clash → Ordering

@@ -7,7 +7,7 @@ use Rattle.mol_faults_values.proofs.local_faults_lemmas.Named.{among-decides}
 use Rattle.mol_faults_values.specs.local_faults.PartScopes.{params_scopes}
 use Rattle.mol_resolve_rules.proofs.Stands.{in_front, behind, in_either}
 use Rattle.mol_spell_rules.specs.LocalClashes.{declaring, IsRepeated}
-use Rattle.mol_values.specs.declared.param.Param.{Param}
+use Rattle.mol_values_types.specs.declared.param.Param.{Param}
 
 abbrev names_of : List Param → Names
 names_of params = map (λ (param : Param). param.name) params

@@ -4,9 +4,9 @@ use Rattle.std.specs.Cmp.Lexicographic.{pointwise, bytes_decides}
 use Rattle.std.proofs.lemmas.Bool.{and_parts}
 use Rattle.mol_faults_values.specs.contracts.local_faults.clash.ClashPartialEq as rows
 use Rattle.mol_faults_values.specs.declared.local_faults.clash.Clash.{Clash}
-use Rattle.mol_table.proofs.Living.{id_tied}
-use Rattle.mol_values.proofs.Ties.{id_ties}
-use Rattle.mol_values.specs.Order.{id_eq}
+use Rattle.mol_table_rules.proofs.Living.{id_tied}
+use Rattle.mol_values_types.proofs.Ties.{id_ties}
+use Rattle.mol_values_types.specs.Order.{id_eq}
 
 abbrev pub clash_eq : Clash → Clash → Bool
 clash_eq = rows.TheImpl.eq-value.it

@@ -13,18 +13,18 @@ use Rattle.mol_faults_values.specs.declared.missing_faults.gone.Gone.{Gone}
 use Rattle.mol_base.proofs.Mapped.{sorted-mapped}
 use Rattle.mol_resolve_rules.proofs.Stands.{in_each, from_each, from_map}
 use Rattle.mol_spell_rules.specs.FaultList.{entity, default_of, local_of, outside_of, Fault, same_address, false_override, apart, outside_name, missing, misread, local_clash, package_is_class, IsFault, by_absence, fault_key, fault_cmp}
-use Rattle.mol_table.specs.Faults.{is_there, Missing}
-use Rattle.mol_table.specs.Identities.{AreKnown}
-use Rattle.mol_table.specs.Life.{entity_in, is_living_entity, lives}
-use Rattle.mol_table.specs.Mentions.{Mention}
-use Rattle.mol_table.specs.Program.{Program, value_at, cell}
-use Rattle.mol_table.specs.Rules.{IsProgram}
-use Rattle.mol_table.specs.Tidy.{tidied, tidy, references}
-use Rattle.mol_values.specs.declared.cell.Cell.{Cell}
-use Rattle.mol_values.specs.declared.cell.Slot.{Slot}
-use Rattle.mol_values.specs.declared.known.Known.{Known}
-use Rattle.mol_values.specs.declared.known.Known.TheVariants as knowns
-use Rattle.mol_values.specs.declared.value.Value.{Value}
+use Rattle.mol_table_rules.specs.Faults.{is_there, Missing}
+use Rattle.mol_table_rules.specs.Identities.{AreKnown}
+use Rattle.mol_table_rules.specs.Life.{entity_in, is_living_entity, lives}
+use Rattle.mol_table_rules.specs.Mentions.{Mention}
+use Rattle.mol_table_rules.specs.Program.{Program, value_at, cell}
+use Rattle.mol_table_rules.specs.Rules.{IsProgram}
+use Rattle.mol_table_rules.specs.Tidy.{tidied, tidy, references}
+use Rattle.mol_values_types.specs.declared.cell.Cell.{Cell}
+use Rattle.mol_values_types.specs.declared.cell.Slot.{Slot}
+use Rattle.mol_values_types.specs.declared.known.Known.{Known}
+use Rattle.mol_values_types.specs.declared.known.Known.TheVariants as knowns
+use Rattle.mol_values_types.specs.declared.value.Value.{Value}
 
 abbrev IsOfKind : Program → Fault → Type 0
 IsOfKind program fault = IsFault program fault × ((fault_key fault).kind ≡ 4)

@@ -8,22 +8,22 @@ use Rattle.jav_names.proofs.Lists.{stands_nowhere}
 use Rattle.mol_base.specs.declared.ident.Id.{Id}
 use Rattle.mol_faults_values.proofs.missing_faults_lemmas.Slots.{passes}
 use Rattle.mol_faults_values.specs.missing_faults.Gone.{referring_slots}
-use Rattle.mol_table.proofs.CellOrder.{every_slot, slot_same}
-use Rattle.mol_table.specs.Faults.{Missing}
-use Rattle.mol_table.specs.Forms.{is_formed}
-use Rattle.mol_table.specs.Mentions.{Mention}
-use Rattle.mol_table.specs.Program.{Program}
-use Rattle.mol_table.specs.Rules.{IsProgram}
-use Rattle.mol_table.specs.Tidy.{references}
-use Rattle.mol_values.specs.Order.{slot_number}
-use Rattle.mol_values.specs.Slots.{has_slot, same_slot, slot_of}
-use Rattle.mol_values.specs.declared.cell.Cell.{Cell}
-use Rattle.mol_values.specs.declared.cell.Slot.{Slot}
-use Rattle.mol_values.specs.declared.cell.Slot.TheVariants as slots
-use Rattle.mol_values.specs.declared.known.Known.{Known}
-use Rattle.mol_values.specs.declared.known.Known.TheVariants as knowns
-use Rattle.mol_values.specs.declared.value.Value.{Value}
-use Rattle.mol_values.specs.declared.value.Value.TheVariants as values
+use Rattle.mol_table_rules.proofs.CellOrder.{every_slot, slot_same}
+use Rattle.mol_table_rules.specs.Faults.{Missing}
+use Rattle.mol_table_rules.specs.Forms.{is_formed}
+use Rattle.mol_table_rules.specs.Mentions.{Mention}
+use Rattle.mol_table_rules.specs.Program.{Program}
+use Rattle.mol_table_rules.specs.Rules.{IsProgram}
+use Rattle.mol_table_rules.specs.Tidy.{references}
+use Rattle.mol_values_types.specs.Order.{slot_number}
+use Rattle.mol_values_types.specs.Slots.{has_slot, same_slot, slot_of}
+use Rattle.mol_values_types.specs.declared.cell.Cell.{Cell}
+use Rattle.mol_values_types.specs.declared.cell.Slot.{Slot}
+use Rattle.mol_values_types.specs.declared.cell.Slot.TheVariants as slots
+use Rattle.mol_values_types.specs.declared.known.Known.{Known}
+use Rattle.mol_values_types.specs.declared.known.Known.TheVariants as knowns
+use Rattle.mol_values_types.specs.declared.value.Value.{Value}
+use Rattle.mol_values_types.specs.declared.value.Value.TheVariants as values
 
 -- a slot whose values may refer to something
 abbrev may_refer : Slot → Bool

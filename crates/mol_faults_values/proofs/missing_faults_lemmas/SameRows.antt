@@ -10,11 +10,11 @@ use Rattle.mol_faults_values.specs.missing_faults.Gone.{fault_of}
 use Rattle.mol_faults_values.specs.contracts.missing_faults.gone.GonePartialEq as rows
 use Rattle.mol_faults_values.specs.declared.missing_faults.gone.Gone.{Gone}
 use Rattle.mol_spell_rules.specs.FaultList.{fault_cmp}
-use Rattle.mol_table.proofs.CellOrder.{cell_cmp-IsAntisymmetric}
-use Rattle.mol_table.proofs.Living.{id_tied}
-use Rattle.mol_values.proofs.Ties.{cell_eq, cell_ties, id_ties}
-use Rattle.mol_values.specs.Order.{cell_cmp, id_eq}
-use Rattle.mol_values.specs.declared.cell.Cell.{Cell}
+use Rattle.mol_table_rules.proofs.CellOrder.{cell_cmp-IsAntisymmetric}
+use Rattle.mol_table_rules.proofs.Living.{id_tied}
+use Rattle.mol_values_types.proofs.Ties.{cell_eq, cell_ties, id_ties}
+use Rattle.mol_values_types.specs.Order.{cell_cmp, id_eq}
+use Rattle.mol_values_types.specs.declared.cell.Cell.{Cell}
 
 -- ---- equal rows
 

@@ -4,11 +4,11 @@ use Rattle.std.proofs.lemmas.List.Folds.{list_all_at}
 use Rattle.std.specs.List.{list_all}
 use Rattle.std.specs.declared.cmp.Ordering.{Ordering}
 use Rattle.std.specs.declared.cmp.Ordering.TheVariants.{Less, Equal, Greater}
-use Rattle.mol_table.proofs.CellOrder.{every_slot, slot_at}
-use Rattle.mol_values.specs.Order.{slot_number}
-use Rattle.mol_values.specs.contracts.cell.SlotOrd as slots
-use Rattle.mol_values.specs.declared.cell.Slot.{Slot}
-use Rattle.mol_values.specs.declared.cell.Slot.TheVariants.{Live, Package, Owner, Method, Name, Super, Result, Params, Kind, Fixed, Words, Notes, Body, Value}
+use Rattle.mol_table_rules.proofs.CellOrder.{every_slot, slot_at}
+use Rattle.mol_values_types.specs.Order.{slot_number}
+use Rattle.mol_values_types.specs.contracts.cell.SlotOrd as slots
+use Rattle.mol_values_types.specs.declared.cell.Slot.{Slot}
+use Rattle.mol_values_types.specs.declared.cell.Slot.TheVariants.{Live, Package, Owner, Method, Name, Super, Result, Params, Kind, Fixed, Words, Notes, Body, Value}
 
 slot-below : (slot : Slot) → slot_number slot < length every_slot
 slot-below Live = omega arith

@@ -7,13 +7,13 @@ use Rattle.mol_faults_values.specs.local_faults.PartScopes.{params_scopes}
 use Rattle.mol_faults_values.specs.declared.local_faults.clash.Clash.{Clash}
 use Rattle.mol_spell_rules.specs.FaultList.{Fault, local_clash}
 use Rattle.mol_spell_rules.specs.LocalClashes.{Scopes, unscoped, then_next, block_scopes}
-use Rattle.mol_table.specs.Counting.{living_of}
-use Rattle.mol_table.specs.Program.{Program, value_at, params_at, cell}
-use Rattle.mol_values.specs.declared.cell.Slot.TheVariants as slots
-use Rattle.mol_values.specs.declared.iblock.IBody.{IBody}
-use Rattle.mol_values.specs.declared.param.Param.{Param}
-use Rattle.mol_values.specs.declared.value.Value.{Value}
-use Rattle.mol_values.specs.declared.value.Value.TheVariants as values
+use Rattle.mol_table_rules.specs.Counting.{living_of}
+use Rattle.mol_table_rules.specs.Program.{Program, value_at, params_at, cell}
+use Rattle.mol_values_types.specs.declared.cell.Slot.TheVariants as slots
+use Rattle.mol_values_types.specs.declared.iblock.IBody.{IBody}
+use Rattle.mol_values_types.specs.declared.param.Param.{Param}
+use Rattle.mol_values_types.specs.declared.value.Value.{Value}
+use Rattle.mol_values_types.specs.declared.value.Value.TheVariants as values
 
 abbrev pub body_in : Option Value → Option IBody
 body_in (Some (values.Body body)) = body

@@ -2,14 +2,14 @@
 use Rattle.std.specs.Prelude.{List, map}
 use Rattle.mol_spell_rules.specs.LocalClashes.{Scopes, declaring, each, in_block, then_next, start_scopes, block_scopes, else_step, node_step, block_step, if_step, stmt_step}
 use Rattle.jav_names.specs.DottedNames.{Name}
-use Rattle.mol_values.specs.declared.iblock.IBlock.{IBlock}
-use Rattle.mol_values.specs.declared.iblock.IDeclarator.{IDeclarator}
-use Rattle.mol_values.specs.declared.iblock.IElse.{IElse, fold-IElse}
-use Rattle.mol_values.specs.declared.iblock.IForStart.{IForStart}
-use Rattle.mol_values.specs.declared.iblock.IIf.{IIf, fold-IIf}
-use Rattle.mol_values.specs.declared.iblock.IStmt.{IStmt, fold-IStmt}
-use Rattle.mol_values.specs.declared.iblock.IStmtNode.{IStmtNode, fold-IStmtNode}
-use Rattle.mol_values.specs.declared.param.Param.{Param}
+use Rattle.mol_values_types.specs.declared.iblock.IBlock.{IBlock}
+use Rattle.mol_values_types.specs.declared.iblock.IDeclarator.{IDeclarator}
+use Rattle.mol_values_types.specs.declared.iblock.IElse.{IElse, fold-IElse}
+use Rattle.mol_values_types.specs.declared.iblock.IForStart.{IForStart}
+use Rattle.mol_values_types.specs.declared.iblock.IIf.{IIf, fold-IIf}
+use Rattle.mol_values_types.specs.declared.iblock.IStmt.{IStmt, fold-IStmt}
+use Rattle.mol_values_types.specs.declared.iblock.IStmtNode.{IStmtNode, fold-IStmtNode}
+use Rattle.mol_values_types.specs.declared.param.Param.{Param}
 
 abbrev pub params_scopes : List Param → Scopes
 params_scopes params = each (map (λ (param : Param). declaring param.name) params)

@@ -5,16 +5,16 @@ use Rattle.std.specs.List.{flat_map}
 use Rattle.mol_base.specs.declared.ident.Id.{Id}
 use Rattle.mol_faults_values.specs.declared.missing_faults.gone.Gone.{Gone}
 use Rattle.mol_spell_rules.specs.FaultList.{Fault, missing}
-use Rattle.mol_table.specs.Faults.{is_there}
-use Rattle.mol_table.specs.Life.{is_living_entity}
-use Rattle.mol_table.specs.Mentions.{Mention, mentions}
-use Rattle.mol_table.specs.Program.{Program, cell}
-use Rattle.mol_values.specs.declared.cell.Cell.{Cell}
-use Rattle.mol_values.specs.declared.cell.Slot.{Slot}
-use Rattle.mol_values.specs.declared.cell.Slot.TheVariants as slots
-use Rattle.mol_values.specs.declared.known.Known.{Known}
-use Rattle.mol_values.specs.declared.known.Known.TheVariants as knowns
-use Rattle.mol_values.specs.declared.value.Value.{Value}
+use Rattle.mol_table_rules.specs.Faults.{is_there}
+use Rattle.mol_table_rules.specs.Life.{is_living_entity}
+use Rattle.mol_table_rules.specs.Mentions.{Mention, mentions}
+use Rattle.mol_table_rules.specs.Program.{Program, cell}
+use Rattle.mol_values_types.specs.declared.cell.Cell.{Cell}
+use Rattle.mol_values_types.specs.declared.cell.Slot.{Slot}
+use Rattle.mol_values_types.specs.declared.cell.Slot.TheVariants as slots
+use Rattle.mol_values_types.specs.declared.known.Known.{Known}
+use Rattle.mol_values_types.specs.declared.known.Known.TheVariants as knowns
+use Rattle.mol_values_types.specs.declared.value.Value.{Value}
 
 abbrev pub fault_of : Gone → Fault
 fault_of gone = missing gone.at gone.target

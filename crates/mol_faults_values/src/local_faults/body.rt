@@ -5,7 +5,7 @@ ghost use Rattle.mol_spell_rules.specs.LocalClashes.{block_scopes, start_scopes,
 
 use crate::local_faults::scope::Scope;
 use mol_base::{OutOfMemory, Text};
-use mol_values::{IBlock, IDeclarator, IElse, IForStart, IIf, ILet, IStmt, IStmtNode, Param};
+use mol_values_types::{IBlock, IDeclarator, IElse, IForStart, IIf, ILet, IStmt, IStmtNode, Param};
 
 /// Parameters are declared, one after the other.
 pub(crate) fn declare_params<'a>(

@@ -5,7 +5,7 @@ ghost use Rattle.mol_faults_values.specs.local_faults.Clashing.{fault_of};
 
 use mol_base::{Id, OutOfMemory, Text};
 use mol_faults_rules::Fault;
-use mol_values::{Cell, Slot};
+use mol_values_types::{Cell, Slot};
 use std::alloc::Global;
 
 /// A declaration of a method, and a name that is declared in it where it is in scope already.

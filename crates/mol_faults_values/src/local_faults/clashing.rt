@@ -4,8 +4,8 @@ ghost use Rattle.std.specs.Prelude.{◌≡◌, ◌++◌, ◌∷◌, [], IfOk, On
 ghost use Rattle.jav_names.specs.DottedNames.{Name};
 ghost use Rattle.mol_faults_values.specs.local_faults.Clashing.{body_in, body_scopes, clash_of, clashes_among, clashes_at, clashes_of};
 ghost use Rattle.mol_spell_rules.specs.LocalClashes.{then_next};
-ghost use Rattle.mol_table.specs.Program.{value_at};
-ghost use Rattle.mol_values.specs.declared.cell.Slot.TheVariants as slots;
+ghost use Rattle.mol_table_rules.specs.Program.{value_at};
+ghost use Rattle.mol_values_types.specs.declared.cell.Slot.TheVariants as slots;
 
 use crate::local_faults::body::{declare_block, declare_params};
 use crate::local_faults::clash::Clash;
@@ -13,7 +13,7 @@ use crate::local_faults::scope::Scope;
 use mol_base::{Id, OutOfMemory, Text};
 use mol_scope_classes::{living_method_of, params_of};
 use mol_table::Table;
-use mol_values::{Cell, IBody, Param, Slot, Value};
+use mol_values_types::{Cell, IBody, Param, Slot, Value};
 use std::alloc::Global;
 
 /// What clashes in the declarations among these identities that live.

@@ -2,14 +2,14 @@
 ghost use Rattle.std.specs.Prelude.{◌≡◌, ◌++◌, IfOk, OnOk, map};
 ghost use Rattle.mol_faults_mentions.specs.mentions.Kept.{kept_mention};
 ghost use Rattle.mol_faults_values.specs.missing_faults.Gone.{gone_among, gone_at, gone_by, gone_in_all, gone_in_slots, referring_slots};
-ghost use Rattle.mol_table.specs.Mentions.{mentions};
+ghost use Rattle.mol_table_rules.specs.Mentions.{mentions};
 
 use crate::missing_faults::gone::Gone;
 use crate::missing_faults::present::{is_there, living_entity};
 use mol_base::{Id, OutOfMemory};
 use mol_faults_mentions::{Mention, mentions_of};
 use mol_table::Table;
-use mol_values::{Cell, Known, Slot, Value};
+use mol_values_types::{Cell, Known, Slot, Value};
 use std::alloc::Global;
 
 /// What the cells of the entities among these identities that live refer to and is gone. A cell is looked up only where its value may

@@ -3,7 +3,7 @@ ghost use Rattle.std.specs.Prelude.{◌≡◌, IfOk, map};
 ghost use Rattle.mol_faults_rules.specs.Kept.{kept_fault};
 ghost use Rattle.mol_faults_rules.specs.OfKind.{AreAllOfKind};
 ghost use Rattle.mol_faults_values.specs.missing_faults.Gone.{fault_of};
-ghost use Rattle.mol_table.specs.Tidy.{tidy};
+ghost use Rattle.mol_table_rules.specs.Tidy.{tidy};
 
 use crate::missing_faults::collected::gone_in_all;
 use crate::missing_faults::gone::{Gone, fault_of};

@@ -5,7 +5,7 @@ ghost use Rattle.mol_faults_values.specs.missing_faults.Gone.{fault_of};
 
 use mol_base::Id;
 use mol_faults_rules::Fault;
-use mol_values::Cell;
+use mol_values_types::Cell;
 
 /// A cell, and something gone that it refers to.
 #[derive(Clone, Copy, PartialEq, Eq, PartialOrd, Ord)]

@@ -4,14 +4,14 @@ ghost use Rattle.std.specs.List.{list_any};
 ghost use Rattle.std.specs.Prelude.{◌≡◌};
 ghost use Rattle.mol_faults_mentions.specs.mentions.Kept.{kept_role};
 ghost use Rattle.mol_faults_values.specs.missing_faults.Gone.{living_entity};
-ghost use Rattle.mol_table.specs.Faults.{is_present, is_there, method_of};
-ghost use Rattle.mol_values.specs.Order.{id_eq};
+ghost use Rattle.mol_table_rules.specs.Faults.{is_present, is_there, method_of};
+ghost use Rattle.mol_values_types.specs.Order.{id_eq};
 
 use mol_base::Id;
 use mol_faults_mentions::{Mention, Role};
 use mol_scope_classes::params_of;
 use mol_table::Table;
-use mol_values::{Known, Param};
+use mol_values_types::{Known, Param};
 
 /// What an entity that lives is known as; `None` of what is no entity, and of one that does not live. It takes no memory.
 pub(crate) fn living_entity(table: &Table, id: &Id) -> Option<Known>

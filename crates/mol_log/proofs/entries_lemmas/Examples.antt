@@ -7,8 +7,8 @@ use Rattle.mol_base.specs.declared.ident.Id.{Id}
 use Rattle.mol_log_rows.specs.declared.rows.row.ParamRow.{ParamRow}
 use Rattle.mol_log_rows.specs.declared.rows.row.Row.{Row}
 use Rattle.mol_log_rows.specs.declared.rows.row.Row.TheVariants as rows
-use Rattle.mol_values.specs.declared.iexpr.IExpr.TheVariants as exprs
-use Rattle.mol_values.specs.declared.itype.IType.TheVariants as types
+use Rattle.mol_values_types.specs.declared.iexpr.IExpr.TheVariants as exprs
+use Rattle.mol_values_types.specs.declared.itype.IType.TheVariants as types
 use Rattle.mol_log_words.proofs.BackTypes.{laws_type}
 use Rattle.mol_log_words.proofs.FirstBad.{refused, longer}
 use Rattle.mol_log_words.specs.FirstBad.{IsFirstBad}

@@ -3,7 +3,7 @@ use Rattle.std.proofs.Common.{◌≡◌, ℕ, List, [], ◌∷◌, ◌++◌, Opt
 use Rattle.mol_op.specs.declared.op.Op.{Op}
 use Rattle.mol_log_rows.specs.declared.rows.row.ParamRow.{ParamRow}
 use Rattle.mol_log_rows.specs.declared.rows.row.Row.{Row}
-use Rattle.mol_values.specs.declared.param.Param.{Param}
+use Rattle.mol_values_types.specs.declared.param.Param.{Param}
 use Rattle.mol_log_words.specs.declared.type_role.TypeRole.TheVariants.{Super}
 use Rattle.mol_log.proofs.entries_lemmas.BadWords.{good_or_bad, one_place}
 use Rattle.mol_log.specs.entries.Spelling.{SpellsMaybe, SpellParams, Spells, add_class, add_field, add_method, add_override}

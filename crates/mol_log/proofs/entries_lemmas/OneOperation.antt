@@ -36,10 +36,10 @@ use Rattle.mol_log_rows.specs.declared.rows.row.SetBodyRow.{SetBodyRow}
 use Rattle.mol_log_rows.specs.declared.rows.row.SetValueRow.{SetValueRow}
 use Rattle.mol_log_rows.specs.declared.rows.row.ParamRow.{ParamRow}
 use Rattle.mol_log_rows.specs.declared.rows.row.Row.{Row}
-use Rattle.mol_values.specs.declared.iblock.IBody.{IBody}
-use Rattle.mol_values.specs.declared.iexpr.IExpr.{IExpr}
-use Rattle.mol_values.specs.declared.itype.IType.{IType}
-use Rattle.mol_values.specs.declared.param.Param.{Param}
+use Rattle.mol_values_types.specs.declared.iblock.IBody.{IBody}
+use Rattle.mol_values_types.specs.declared.iexpr.IExpr.{IExpr}
+use Rattle.mol_values_types.specs.declared.itype.IType.{IType}
+use Rattle.mol_values_types.specs.declared.param.Param.{Param}
 use Rattle.mol_log_words.proofs.BackTypes.{laws_type}
 use Rattle.mol_log_words.proofs.FirstBad.{Laws, only}
 use Rattle.mol_log_words.specs.FirstBad.{Form}

@@ -1,7 +1,7 @@
 -- Parameters that are read one after the other.
 use Rattle.std.proofs.Common.{◌≡◌, ℕ, List, [], ◌∷◌, ◌++◌, refl, sym, subst}
 use Rattle.mol_log_rows.specs.declared.rows.row.ParamRow.{ParamRow}
-use Rattle.mol_values.specs.declared.param.Param.{Param}
+use Rattle.mol_values_types.specs.declared.param.Param.{Param}
 use Rattle.mol_log_words.specs.declared.fault.BadWord.{BadWord}
 use Rattle.mol_log_words.specs.declared.fault.BadWord.TheVariants.{OutOfMemory, Bad}
 use Rattle.mol_log_words.specs.declared.type_role.TypeRole.TheVariants.{Value}

@@ -5,29 +5,29 @@ use Rattle.std.specs.List.{list_all}
 use Rattle.std.specs.Option.{option_map_or}
 use Rattle.std.proofs.lemmas.Bool.Decides.{nat_tests}
 use Rattle.mol_base.proofs.Tags.{both_true}
-use Rattle.mol_table.specs.ExpressionForms.{shape_of, are_values, is_initial, is_expression, is_statement}
-use Rattle.mol_table.specs.StatementForms.{StatementShape, BlockShape, is_maybe, is_declarator, is_let, is_start, are_formed, has_super}
-use Rattle.mol_table.specs.StatementForms.{else_step, node_step, block_step, if_step, statement_step, block_shape, is_body}
-use Rattle.mol_values.specs.TokenForms.{is_comment}
-use Rattle.mol_table.proofs.KeptBlocks.{else_form, node_shape, if_form, statement_shape}
-use Rattle.mol_values.specs.Blocks.{block_of, branch_of}
-use Rattle.mol_values.specs.declared.iblock.IBlock.{IBlock}
-use Rattle.mol_values.specs.declared.iblock.IBody.{IBody}
-use Rattle.mol_values.specs.declared.iblock.IDeclarator.{IDeclarator}
-use Rattle.mol_values.specs.declared.iblock.IElse.{IElse}
-use Rattle.mol_values.specs.declared.iblock.IElse.TheFolds.{fold-roll-IElse, fold-roll-IStmtNode, fold-roll-IBlock, fold-roll-IIf}
-use Rattle.mol_values.specs.declared.iblock.IElse.TheFolds.{fold-roll-IStmt, map-IElse, map-IStmtNode}
-use Rattle.mol_values.specs.declared.iblock.IElse.TheOpen.{IElse-F, IStmtNode-F}
-use Rattle.mol_values.specs.declared.iblock.IElse.TheVariants as elses
-use Rattle.mol_values.specs.declared.iblock.IElse.TheViews.{roll-IElse, roll-IStmtNode}
-use Rattle.mol_values.specs.declared.iblock.IForStart.{IForStart}
-use Rattle.mol_values.specs.declared.iblock.IIf.{IIf}
-use Rattle.mol_values.specs.declared.iblock.ILet.{ILet}
-use Rattle.mol_values.specs.declared.iblock.IStmt.{IStmt}
-use Rattle.mol_values.specs.declared.iblock.IStmtNode.{IStmtNode}
-use Rattle.mol_values.specs.declared.iblock.IStmtNode.TheVariants as nodes
-use Rattle.mol_values.specs.declared.iexpr.Argument.{Argument}
-use Rattle.mol_values.specs.declared.iexpr.IExpr.{IExpr}
+use Rattle.mol_table_rules.specs.ExpressionForms.{shape_of, are_values, is_initial, is_expression, is_statement}
+use Rattle.mol_table_rules.specs.StatementForms.{StatementShape, BlockShape, is_maybe, is_declarator, is_let, is_start, are_formed, has_super}
+use Rattle.mol_table_rules.specs.StatementForms.{else_step, node_step, block_step, if_step, statement_step, block_shape, is_body}
+use Rattle.mol_values_types.specs.TokenForms.{is_comment}
+use Rattle.mol_table_rules.proofs.KeptBlocks.{else_form, node_shape, if_form, statement_shape}
+use Rattle.mol_values_types.specs.Blocks.{block_of, branch_of}
+use Rattle.mol_values_types.specs.declared.iblock.IBlock.{IBlock}
+use Rattle.mol_values_types.specs.declared.iblock.IBody.{IBody}
+use Rattle.mol_values_types.specs.declared.iblock.IDeclarator.{IDeclarator}
+use Rattle.mol_values_types.specs.declared.iblock.IElse.{IElse}
+use Rattle.mol_values_types.specs.declared.iblock.IElse.TheFolds.{fold-roll-IElse, fold-roll-IStmtNode, fold-roll-IBlock, fold-roll-IIf}
+use Rattle.mol_values_types.specs.declared.iblock.IElse.TheFolds.{fold-roll-IStmt, map-IElse, map-IStmtNode}
+use Rattle.mol_values_types.specs.declared.iblock.IElse.TheOpen.{IElse-F, IStmtNode-F}
+use Rattle.mol_values_types.specs.declared.iblock.IElse.TheVariants as elses
+use Rattle.mol_values_types.specs.declared.iblock.IElse.TheViews.{roll-IElse, roll-IStmtNode}
+use Rattle.mol_values_types.specs.declared.iblock.IForStart.{IForStart}
+use Rattle.mol_values_types.specs.declared.iblock.IIf.{IIf}
+use Rattle.mol_values_types.specs.declared.iblock.ILet.{ILet}
+use Rattle.mol_values_types.specs.declared.iblock.IStmt.{IStmt}
+use Rattle.mol_values_types.specs.declared.iblock.IStmtNode.{IStmtNode}
+use Rattle.mol_values_types.specs.declared.iblock.IStmtNode.TheVariants as nodes
+use Rattle.mol_values_types.specs.declared.iexpr.Argument.{Argument}
+use Rattle.mol_values_types.specs.declared.iexpr.IExpr.{IExpr}
 use Rattle.mol_log_words.specs.Words.{Word, within}
 use Rattle.mol_log_words.specs.declared.bounds.Bounds.TheVariants.{Positive}
 use Rattle.mol_log_expr.specs.Expressions.{AreArguments, no_arguments, more_arguments}

@@ -8,15 +8,15 @@ use Rattle.mol_base.proofs.Tags.{both_true}
 use Rattle.mol_base.specs.Limits.{max_items}
 use Rattle.mol_base.specs.Operators.{is_prefix, is_step}
 use Rattle.mol_base.specs.declared.ident.Id.{Id}
-use Rattle.mol_table.specs.ExpressionForms.{Shape, plain, target, statement, is_value, is_first_value, are_values, are_arguments}
-use Rattle.mol_table.specs.ExpressionForms.{shape_step, argument_step, shape_of}
-use Rattle.mol_table.proofs.Kept.{argument_shape}
-use Rattle.mol_values.specs.declared.iexpr.Argument.{Argument}
-use Rattle.mol_values.specs.declared.iexpr.IExpr.{IExpr}
-use Rattle.mol_values.specs.declared.iexpr.IExpr.TheFolds.{fold-roll-IExpr, fold-roll-Argument, map-IExpr}
-use Rattle.mol_values.specs.declared.iexpr.IExpr.TheOpen.{IExpr-F}
-use Rattle.mol_values.specs.declared.iexpr.IExpr.TheVariants as exprs
-use Rattle.mol_values.specs.declared.iexpr.IExpr.TheViews.{roll-IExpr}
+use Rattle.mol_table_rules.specs.ExpressionForms.{Shape, plain, target, statement, is_value, is_first_value, are_values, are_arguments}
+use Rattle.mol_table_rules.specs.ExpressionForms.{shape_step, argument_step, shape_of}
+use Rattle.mol_table_rules.proofs.Kept.{argument_shape}
+use Rattle.mol_values_types.specs.declared.iexpr.Argument.{Argument}
+use Rattle.mol_values_types.specs.declared.iexpr.IExpr.{IExpr}
+use Rattle.mol_values_types.specs.declared.iexpr.IExpr.TheFolds.{fold-roll-IExpr, fold-roll-Argument, map-IExpr}
+use Rattle.mol_values_types.specs.declared.iexpr.IExpr.TheOpen.{IExpr-F}
+use Rattle.mol_values_types.specs.declared.iexpr.IExpr.TheVariants as exprs
+use Rattle.mol_values_types.specs.declared.iexpr.IExpr.TheViews.{roll-IExpr}
 use Rattle.mol_log_words.specs.Words.{Word, has_form, within}
 use Rattle.mol_log_words.specs.declared.bounds.Bounds.TheVariants.{Few, Sizes}
 use Rattle.mol_log_expr.specs.ExpressionHeads.{allows, unary_form, is_target, is_action}

@@ -23,18 +23,18 @@ use Rattle.mol_log_rows.specs.declared.rows.row.ParamRow.{ParamRow}
 use Rattle.mol_log_rows.specs.declared.rows.row.RenameClassRow.{RenameClassRow}
 use Rattle.mol_log_rows.specs.declared.rows.row.RenameMethodRow.{RenameMethodRow}
 use Rattle.mol_log_rows.specs.declared.rows.row.Row.TheVariants as rows
-use Rattle.mol_table.specs.ExpressionForms.{is_initial}
-use Rattle.mol_table.specs.Forms.{is_param}
-use Rattle.mol_table.specs.StatementForms.{is_body}
-use Rattle.mol_values.specs.TokenForms.{is_name, is_dotted, is_filler}
-use Rattle.mol_table.specs.TypeForms.{is_class}
-use Rattle.mol_values.specs.Words.{are_words}
-use Rattle.mol_values.specs.declared.iblock.IBody.{IBody}
-use Rattle.mol_values.specs.declared.iexpr.IExpr.{IExpr}
-use Rattle.mol_values.specs.declared.itype.IType.{IType}
-use Rattle.mol_values.specs.declared.kind.MethodKind.{MethodKind}
-use Rattle.mol_values.specs.declared.kind.MethodKind.TheVariants.{Instance, Static, Constructor}
-use Rattle.mol_values.specs.declared.param.Param.{Param}
+use Rattle.mol_table_rules.specs.ExpressionForms.{is_initial}
+use Rattle.mol_table_rules.specs.Forms.{is_param}
+use Rattle.mol_table_rules.specs.StatementForms.{is_body}
+use Rattle.mol_values_types.specs.TokenForms.{is_name, is_dotted, is_filler}
+use Rattle.mol_table_rules.specs.TypeForms.{is_class}
+use Rattle.mol_values_types.specs.Words.{are_words}
+use Rattle.mol_values_types.specs.declared.iblock.IBody.{IBody}
+use Rattle.mol_values_types.specs.declared.iexpr.IExpr.{IExpr}
+use Rattle.mol_values_types.specs.declared.itype.IType.{IType}
+use Rattle.mol_values_types.specs.declared.kind.MethodKind.{MethodKind}
+use Rattle.mol_values_types.specs.declared.kind.MethodKind.TheVariants.{Instance, Static, Constructor}
+use Rattle.mol_values_types.specs.declared.param.Param.{Param}
 use Rattle.mol_log_words.specs.declared.type_role.TypeRole.TheVariants.{Value, Result, Super}
 use Rattle.mol_log.specs.entries.Spelling.{SpellsMaybe, SpellsParam, SpellParams}
 use Rattle.mol_log.specs.entries.Trees.{Ws, SpellsType, SpellsValue, SpellsBody}

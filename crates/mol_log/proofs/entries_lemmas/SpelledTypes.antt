@@ -2,13 +2,13 @@
 use Rattle.std.proofs.Common.{◌≡◌, ◌⊎◌, inl, inr, ℕ, ◌+◌, ◌≤◌, List, Bool, true, false, refl, sym, ap, ◌∙◌, arith}
 use Rattle.std.specs.Prelude.{◌&&◌, ◌||◌, nat_le}
 use Rattle.std.proofs.lemmas.Bool.Decides.{nat_tests}
-use Rattle.mol_table.specs.TypeForms.{named_step, dimensions_step, dimensions, void_step, array_step, outside_step, class_step}
-use Rattle.mol_table.specs.TypeForms.{is_type, is_void, is_result, is_array, is_outside_class, is_class}
-use Rattle.mol_values.specs.declared.itype.IType.{IType, fold-IType}
-use Rattle.mol_values.specs.declared.itype.IType.TheFolds.{fold-roll-IType, map-IType}
-use Rattle.mol_values.specs.declared.itype.IType.TheOpen.{IType-F}
-use Rattle.mol_values.specs.declared.itype.IType.TheVariants as types
-use Rattle.mol_values.specs.declared.itype.IType.TheViews.{roll-IType}
+use Rattle.mol_table_rules.specs.TypeForms.{named_step, dimensions_step, dimensions, void_step, array_step, outside_step, class_step}
+use Rattle.mol_table_rules.specs.TypeForms.{is_type, is_void, is_result, is_array, is_outside_class, is_class}
+use Rattle.mol_values_types.specs.declared.itype.IType.{IType, fold-IType}
+use Rattle.mol_values_types.specs.declared.itype.IType.TheFolds.{fold-roll-IType, map-IType}
+use Rattle.mol_values_types.specs.declared.itype.IType.TheOpen.{IType-F}
+use Rattle.mol_values_types.specs.declared.itype.IType.TheVariants as types
+use Rattle.mol_values_types.specs.declared.itype.IType.TheViews.{roll-IType}
 use Rattle.mol_log_words.specs.TypeHeads.{allows_type}
 use Rattle.mol_log_words.specs.Types.{IsType, most_dimensions, boolean, byte, short, char, int, long, void, class, imported, written, array}
 use Rattle.mol_log_words.specs.Words.{Word}

@@ -9,12 +9,12 @@ use Rattle.mol_op.specs.declared.op.Op.{Op}
 use Rattle.mol_log_rows.specs.rows.RowForms.{is_row, is_kind, are_class_notes, are_member_notes, is_param_row, are_param_rows}
 use Rattle.mol_log_rows.specs.declared.rows.row.ParamRow.{ParamRow}
 use Rattle.mol_log_rows.specs.declared.rows.row.Row.{Row}
-use Rattle.mol_values.specs.TokenForms.{is_name, is_dotted, is_filler}
-use Rattle.mol_values.specs.Words.{are_words}
-use Rattle.mol_values.specs.declared.iblock.IBody.{IBody}
-use Rattle.mol_values.specs.declared.iexpr.IExpr.{IExpr}
-use Rattle.mol_values.specs.declared.itype.IType.{IType}
-use Rattle.mol_values.specs.declared.param.Param.{Param}
+use Rattle.mol_values_types.specs.TokenForms.{is_name, is_dotted, is_filler}
+use Rattle.mol_values_types.specs.Words.{are_words}
+use Rattle.mol_values_types.specs.declared.iblock.IBody.{IBody}
+use Rattle.mol_values_types.specs.declared.iexpr.IExpr.{IExpr}
+use Rattle.mol_values_types.specs.declared.itype.IType.{IType}
+use Rattle.mol_values_types.specs.declared.param.Param.{Param}
 use Rattle.mol_log_words.proofs.WrittenTypes.{written_type}
 use Rattle.mol_log_words.specs.TypeWords.{type_words}
 use Rattle.mol_log_words.specs.declared.type_role.TypeRole.TheVariants.{Super}

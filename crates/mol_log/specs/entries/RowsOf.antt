@@ -1,6 +1,6 @@
 -- The row that is written for an operation.
 use Rattle.std.specs.Prelude.{List, map, option_map}
-use Rattle.mol_values.specs.declared.param.Param.{Param}
+use Rattle.mol_values_types.specs.declared.param.Param.{Param}
 use Rattle.mol_op.specs.declared.op.Op.{Op}
 use Rattle.mol_op.specs.declared.op.Op.TheVariants as ops
 use Rattle.mol_log_words.specs.TypeWords.{type_words}

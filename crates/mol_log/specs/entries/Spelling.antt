@@ -1,6 +1,6 @@
 -- Which operation a row spells: its words are the trees of the operation, and all else is the same.
 use Rattle.std.specs.Prelude.{◌≡◌, List, [], ◌∷◌, Option, None, Some}
-use Rattle.mol_values.specs.declared.param.Param.{Param}
+use Rattle.mol_values_types.specs.declared.param.Param.{Param}
 use Rattle.mol_log_rows.specs.declared.rows.row.AddClassRow.{AddClassRow}
 use Rattle.mol_log_rows.specs.declared.rows.row.AddConstructorRow.{AddConstructorRow}
 use Rattle.mol_log_rows.specs.declared.rows.row.AddFieldRow.{AddFieldRow}

@@ -2,9 +2,9 @@
 use Rattle.std.specs.Prelude.{ℕ, List, [], ◌∷◌, ◌++◌, map, Option, None, Some}
 use Rattle.mol_base.specs.Limits.{most}
 use Rattle.mol_base.specs.declared.limit.Which.TheVariants.{Height}
-use Rattle.mol_values.specs.declared.iblock.IBody.{IBody}
-use Rattle.mol_values.specs.declared.iexpr.IExpr.{IExpr}
-use Rattle.mol_values.specs.declared.itype.IType.{IType}
+use Rattle.mol_values_types.specs.declared.iblock.IBody.{IBody}
+use Rattle.mol_values_types.specs.declared.iexpr.IExpr.{IExpr}
+use Rattle.mol_values_types.specs.declared.itype.IType.{IType}
 use Rattle.mol_log_words.specs.FirstBad.{IsFirstBad}
 use Rattle.mol_log_words.specs.Types.{IsType, most_dimensions}
 use Rattle.mol_log_words.specs.Words.{Word}

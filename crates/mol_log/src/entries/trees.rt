@@ -10,7 +10,7 @@ use mol_log_body::read_body;
 use mol_log_expr::read_expr;
 use mol_log_rows::ParamRow;
 use mol_log_words::{BadWord, TypeRole, read_type};
-use mol_values::{IBody, IExpr, IType, Param};
+use mol_values_types::{IBody, IExpr, IType, Param};
 use std::alloc::Global;
 
 /// The type of a field and its first value, if there is one.

@@ -13,7 +13,7 @@ use Rattle.mol_base.specs.Modifiers.{all_words, class_words, field_words, method
 use Rattle.mol_base.specs.declared.modifier.Modified.{Modified}
 use Rattle.mol_base.specs.declared.modifier.Modified.TheVariants as of
 use Rattle.mol_base.proofs.Tags.{both_true}
-use Rattle.mol_values.specs.Words.{are_words}
+use Rattle.mol_values_types.specs.Words.{are_words}
 use Rattle.mol_log_rows.specs.rows.RowForms.{words_before}
 
 -- ---- lists of texts that are equal

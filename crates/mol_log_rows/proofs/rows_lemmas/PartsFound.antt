@@ -10,12 +10,12 @@ use Rattle.mol_base.specs.Limits.{max_items}
 use Rattle.mol_log_rows.specs.lines.Objects.{texts_data}
 use Rattle.mol_log_rows.specs.lines.Reader.{object_from, id_from, texts_from}
 use Rattle.mol_log_rows.proofs.lines_lemmas.ReaderFound.{step, kept_is, whole_found, pure_is, text_found, texts_found, id_found}
-use Rattle.mol_values.specs.TokenForms.{is_name, is_filler, are_comments}
-use Rattle.mol_values.specs.Words.{are_words}
-use Rattle.mol_values.specs.declared.kind.MethodKind.{MethodKind}
-use Rattle.mol_values.specs.declared.kind.MethodKind.TheVariants.{Instance, Static}
-use Rattle.mol_values.specs.declared.words.Notes.{Notes}
-use Rattle.mol_values.specs.declared.words.Words.{Words}
+use Rattle.mol_values_types.specs.TokenForms.{is_name, is_filler, are_comments}
+use Rattle.mol_values_types.specs.Words.{are_words}
+use Rattle.mol_values_types.specs.declared.kind.MethodKind.{MethodKind}
+use Rattle.mol_values_types.specs.declared.kind.MethodKind.TheVariants.{Instance, Static}
+use Rattle.mol_values_types.specs.declared.words.Notes.{Notes}
+use Rattle.mol_values_types.specs.declared.words.Words.{Words}
 use Rattle.mol_log_rows.specs.lines.Objects.{items}
 use Rattle.mol_log_rows.specs.rows.RowForms.{is_kind, are_class_notes, are_member_notes, is_param_row, are_param_rows}
 use Rattle.mol_log_rows.specs.rows.RowReader as row_reader

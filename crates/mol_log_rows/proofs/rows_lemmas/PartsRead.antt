@@ -9,12 +9,12 @@ use Rattle.mol_base.proofs.Tags.{both_true}
 use Rattle.mol_log_rows.specs.lines.Objects.{items, texts_data}
 use Rattle.mol_log_rows.specs.lines.Reader.{part, and_then, kept, object_from}
 use Rattle.mol_log_rows.proofs.lines_lemmas.ReaderRead.{id_read, texts_read}
-use Rattle.mol_values.specs.TokenForms.{is_name, is_filler, are_comments, is_empty}
-use Rattle.mol_values.specs.Words.{are_words}
-use Rattle.mol_values.specs.declared.kind.MethodKind.{MethodKind}
-use Rattle.mol_values.specs.declared.kind.MethodKind.TheVariants.{Instance, Static, Constructor}
-use Rattle.mol_values.specs.declared.words.Notes.{Notes}
-use Rattle.mol_values.specs.declared.words.Words.{Words}
+use Rattle.mol_values_types.specs.TokenForms.{is_name, is_filler, are_comments, is_empty}
+use Rattle.mol_values_types.specs.Words.{are_words}
+use Rattle.mol_values_types.specs.declared.kind.MethodKind.{MethodKind}
+use Rattle.mol_values_types.specs.declared.kind.MethodKind.TheVariants.{Instance, Static, Constructor}
+use Rattle.mol_values_types.specs.declared.words.Notes.{Notes}
+use Rattle.mol_values_types.specs.declared.words.Words.{Words}
 use Rattle.mol_log_rows.specs.rows.RowForms.{is_kind, are_class_notes, are_member_notes, is_param_row, are_param_rows}
 use Rattle.mol_log_rows.specs.rows.RowReader.{param, words_made, words_from, member_notes_from, notes_of, class_notes_from, kind_from, params_in, params_from}
 use Rattle.mol_log_rows.specs.rows.RowData.{kind_data, class_notes, member_notes, param_data, params_data}

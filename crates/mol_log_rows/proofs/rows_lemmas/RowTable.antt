@@ -6,7 +6,7 @@ use Rattle.std.specs.Cmp.Lexicographic.{same_text}
 use Rattle.serde_json.specs.Data.{Members}
 use Rattle.mol_log_rows.specs.lines.Reader.{Reads}
 use Rattle.mol_log_rows.specs.declared.lines.object_fault.ObjectFault.{ObjectFault}
-use Rattle.mol_values.specs.declared.kind.MethodKind.TheVariants.{Instance, Static}
+use Rattle.mol_values_types.specs.declared.kind.MethodKind.TheVariants.{Instance, Static}
 use Rattle.mol_log_rows.specs.rows.RowReader.{NamedReader, row_in, row_named, kind_of}
 use Rattle.mol_log_rows.specs.declared.rows.row.Row.{Row}
 

@@ -6,11 +6,11 @@ use Rattle.serde_json.specs.Data.{Data, string, object, Members, no_members}
 use Rattle.mol_base.specs.Modifiers.{class_words, field_words, kept_words, constructor_words}
 use Rattle.mol_base.specs.Spelled.{is_id, is_stamp}
 use Rattle.mol_base.specs.declared.ident.Id.{Id}
-use Rattle.mol_values.specs.TokenForms.{is_name, is_dotted}
-use Rattle.mol_values.specs.Words.{are_words}
-use Rattle.mol_values.specs.declared.kind.MethodKind.{MethodKind}
-use Rattle.mol_values.specs.declared.words.Notes.{Notes}
-use Rattle.mol_values.specs.declared.words.Words.{Words}
+use Rattle.mol_values_types.specs.TokenForms.{is_name, is_dotted}
+use Rattle.mol_values_types.specs.Words.{are_words}
+use Rattle.mol_values_types.specs.declared.kind.MethodKind.{MethodKind}
+use Rattle.mol_values_types.specs.declared.words.Notes.{Notes}
+use Rattle.mol_values_types.specs.declared.words.Words.{Words}
 use Rattle.mol_log_rows.specs.lines.Objects.{members, texts_data}
 use Rattle.mol_log_rows.specs.lines.Reader.{Outcome, Reader, ◌>>=◌, and_then, pure, part, before, object_from, stamp_from, id_from, same_from, texts_from, maybe_from}
 use Rattle.mol_log_rows.proofs.lines_lemmas.ReaderFound.{step, pure_is, whole_found, stamp_found, id_found, text_found, same_found, texts_found, maybe_found, follow}

@@ -5,8 +5,8 @@ use Rattle.mol_base.proofs.Tags.{both_true}
 use Rattle.mol_base.specs.Modifiers.{class_words, field_words, kept_words, constructor_words}
 use Rattle.mol_base.specs.Spelled.{is_id, is_stamp}
 use Rattle.mol_base.specs.declared.ident.Stamp.{Stamp}
-use Rattle.mol_values.specs.TokenForms.{is_name, is_dotted}
-use Rattle.mol_values.specs.Words.{are_words}
+use Rattle.mol_values_types.specs.TokenForms.{is_name, is_dotted}
+use Rattle.mol_values_types.specs.Words.{are_words}
 use Rattle.mol_log_rows.specs.lines.Reader.{part, and_then}
 use Rattle.mol_log_rows.proofs.lines_lemmas.ReaderRead.{id_read, stamp_read, texts_read, maybe_read}
 use Rattle.mol_log_rows.specs.rows.RowReader.{recorded_from, recorded_of}

@@ -6,9 +6,9 @@ use Rattle.mol_base.specs.Identity.{spelled_id, spelled_stamp}
 use Rattle.mol_base.specs.Spelled.{is_stamp}
 use Rattle.mol_base.specs.declared.ident.Id.{Id}
 use Rattle.mol_base.specs.declared.ident.Stamp.{Stamp}
-use Rattle.mol_values.specs.declared.kind.MethodKind.{MethodKind}
-use Rattle.mol_values.specs.declared.kind.MethodKind.TheVariants.{Instance, Static, Constructor}
-use Rattle.mol_values.specs.declared.words.Notes.{Notes}
+use Rattle.mol_values_types.specs.declared.kind.MethodKind.{MethodKind}
+use Rattle.mol_values_types.specs.declared.kind.MethodKind.TheVariants.{Instance, Static, Constructor}
+use Rattle.mol_values_types.specs.declared.words.Notes.{Notes}
 use Rattle.mol_log_rows.specs.lines.Objects.{Pair, object_of, items, texts_data, maybe_texts}
 use Rattle.mol_log_rows.specs.rows.RowForms.{is_row}
 use Rattle.mol_log_rows.specs.declared.rows.row.ParamRow.{ParamRow}

@@ -7,11 +7,11 @@ use Rattle.mol_base.specs.Modifiers.{class_words, field_words, method_words, abs
 use Rattle.mol_base.specs.declared.modifier.Modified.{Modified}
 use Rattle.mol_base.specs.declared.modifier.Modified.TheVariants as of
 use Rattle.mol_base.specs.Spelled.{is_id}
-use Rattle.mol_values.specs.TokenForms.{is_name, is_dotted, is_filler, are_comments, is_empty}
-use Rattle.mol_values.specs.Words.{are_words}
-use Rattle.mol_values.specs.declared.kind.MethodKind.{MethodKind}
-use Rattle.mol_values.specs.declared.kind.MethodKind.TheVariants.{Constructor}
-use Rattle.mol_values.specs.declared.words.Notes.{Notes}
+use Rattle.mol_values_types.specs.TokenForms.{is_name, is_dotted, is_filler, are_comments, is_empty}
+use Rattle.mol_values_types.specs.Words.{are_words}
+use Rattle.mol_values_types.specs.declared.kind.MethodKind.{MethodKind}
+use Rattle.mol_values_types.specs.declared.kind.MethodKind.TheVariants.{Constructor}
+use Rattle.mol_values_types.specs.declared.words.Notes.{Notes}
 use Rattle.mol_log_rows.specs.declared.rows.row.ParamRow.{ParamRow}
 use Rattle.mol_log_rows.specs.declared.rows.row.Row.{Row}
 use Rattle.mol_log_rows.specs.declared.rows.row.Row.TheVariants.{AddClass, AddField, AddMethod, AddOverride, AddConstructor, Delete, SetBody, SetValue, RenameClass, RenameMethod, MoveClass, MoveMethod, ChangeSignature}

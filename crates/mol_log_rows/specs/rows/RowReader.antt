@@ -9,12 +9,12 @@ use Rattle.mol_base.specs.Modifiers.{class_words, field_words, kept_words, const
 use Rattle.mol_base.specs.declared.ident.Id.{Id}
 use Rattle.mol_base.specs.declared.ident.Stamp.{Stamp}
 use Rattle.mol_log_rows.specs.lines.Reader.{Reader, ◌>>=◌, pure, part, kept, object_from, id_from, stamp_from, same_from, texts_from, maybe_from}
-use Rattle.mol_values.specs.TokenForms.{is_name, is_dotted, is_filler, are_comments}
-use Rattle.mol_values.specs.Words.{are_words}
-use Rattle.mol_values.specs.declared.kind.MethodKind.{MethodKind}
-use Rattle.mol_values.specs.declared.kind.MethodKind.TheVariants.{Instance, Static}
-use Rattle.mol_values.specs.declared.words.Notes.{Notes}
-use Rattle.mol_values.specs.declared.words.Words.{Words}
+use Rattle.mol_values_types.specs.TokenForms.{is_name, is_dotted, is_filler, are_comments}
+use Rattle.mol_values_types.specs.Words.{are_words}
+use Rattle.mol_values_types.specs.declared.kind.MethodKind.{MethodKind}
+use Rattle.mol_values_types.specs.declared.kind.MethodKind.TheVariants.{Instance, Static}
+use Rattle.mol_values_types.specs.declared.words.Notes.{Notes}
+use Rattle.mol_values_types.specs.declared.words.Words.{Words}
 use Rattle.mol_log_rows.specs.declared.rows.row.ParamRow.{ParamRow}
 use Rattle.mol_log_rows.specs.declared.rows.row.Recorded.{Recorded}
 use Rattle.mol_log_rows.specs.declared.rows.row.Row.{Row}

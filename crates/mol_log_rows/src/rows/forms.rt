@@ -1,12 +1,12 @@
 //! Which texts a row may have.
 ghost use Rattle.std.specs.Prelude.{◌≡◌, ◌≢◌, ◌==◌, ◌&&◌, drop};
 ghost use Rattle.mol_base.specs.Lexical.Characters.{first};
-ghost use Rattle.mol_values.specs.TokenForms as spec;
-ghost use Rattle.mol_values.specs.Words.{are_words as are_words_of};
+ghost use Rattle.mol_values_types.specs.TokenForms as spec;
+ghost use Rattle.mol_values_types.specs.Words.{are_words as are_words_of};
 ghost use Rattle.mol_log_rows.specs.rows.RowForms.{words_before};
 
 use mol_base::{Modified, Text, are_in_order};
-use mol_values::{is_comment, is_literal};
+use mol_values_types::{is_comment, is_literal};
 
 /// Whether the bytes are a literal, or `-` and a number.
 pub fn is_filler(bytes: &[u8]) -> bool

@@ -4,8 +4,8 @@
 ghost use Rattle.std.specs.Prelude.{◌≡◌, ◌≢◌, Some, codes, option_map};
 ghost use Rattle.serde_json.specs.View.{view, items_view};
 ghost use Rattle.mol_log_rows.specs.lines.Reader.{Gives, Reads, kept, members_left, object_from, part};
-ghost use Rattle.mol_values.specs.TokenForms.{are_comments as are_comments_of};
-ghost use Rattle.mol_values.specs.Words.{are_words as are_words_of};
+ghost use Rattle.mol_values_types.specs.TokenForms.{are_comments as are_comments_of};
+ghost use Rattle.mol_values_types.specs.Words.{are_words as are_words_of};
 ghost use Rattle.mol_log_rows.specs.rows.RowForms.{words_before};
 ghost use Rattle.mol_log_rows.specs.rows.RowReader as reader;
 
@@ -13,7 +13,7 @@ use crate::lines::{Members, ObjectFault, items};
 use crate::rows::ParamRow;
 use crate::rows::forms::{are_comments, are_words, is_filler};
 use mol_base::{List, MAX_ITEMS, Modified, Text};
-use mol_values::{MethodKind, Notes, Words, is_dotted, is_name};
+use mol_values_types::{MethodKind, Notes, Words, is_dotted, is_name};
 use serde_json::Value;
 use std::alloc::Global;
 

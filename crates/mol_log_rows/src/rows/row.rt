@@ -1,7 +1,7 @@
 //! Operations as a line of a log has them: the words of types, values and bodies are not read yet. Of each the parts are
 //! those of the operation of its name; a list of words may be absent where there may be no superclass, first value or body.
 use mol_base::{Id, List, Stamp, Text};
-use mol_values::{MethodKind, Notes, Words};
+use mol_values_types::{MethodKind, Notes, Words};
 
 /// A parameter whose type is words.
 #[derive(Drop)]

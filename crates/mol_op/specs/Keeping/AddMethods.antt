@@ -9,24 +9,24 @@ use Rattle.std.specs.Prelude.{codes}
 use Rattle.mol_base.specs.Among.{among}
 use Rattle.mol_base.specs.Modifiers.{kept_words, constructor_words, in_order, has_one_access}
 use Rattle.mol_base.specs.declared.ident.Id.{Id}
-use Rattle.mol_table.specs.Forms.{is_formed}
-use Rattle.mol_table.specs.Mentions.{Mention, type_step, type_mentions, body_mentions}
-use Rattle.mol_table.specs.Program.{Program, Knowns, same_id}
-use Rattle.mol_table.specs.Rules.{IsProgram}
-use Rattle.mol_table.specs.TypeForms.{is_void, void_step}
-use Rattle.mol_values.specs.Words.{are_words, is_declaration}
-use Rattle.mol_table.specs.Writes.{AreNew, with_entities}
-use Rattle.mol_values.specs.declared.iblock.IBody.{IBody}
-use Rattle.mol_values.specs.declared.itype.IType.{IType}
-use Rattle.mol_values.specs.declared.itype.IType.TheFolds.{fold-roll-IType}
-use Rattle.mol_values.specs.declared.itype.IType.TheOpen.{IType-F}
-use Rattle.mol_values.specs.declared.itype.IType.TheVariants as types
-use Rattle.mol_values.specs.declared.kind.MethodKind.{MethodKind}
-use Rattle.mol_values.specs.declared.kind.MethodKind.TheVariants.{Instance, Static, Constructor}
-use Rattle.mol_values.specs.declared.known.Known.TheVariants as knowns
-use Rattle.mol_values.specs.declared.value.Value.TheVariants as values
+use Rattle.mol_table_rules.specs.Forms.{is_formed}
+use Rattle.mol_table_rules.specs.Mentions.{Mention, type_step, type_mentions, body_mentions}
+use Rattle.mol_table_rules.specs.Program.{Program, Knowns, same_id}
+use Rattle.mol_table_rules.specs.Rules.{IsProgram}
+use Rattle.mol_table_rules.specs.TypeForms.{is_void, void_step}
+use Rattle.mol_values_types.specs.Words.{are_words, is_declaration}
+use Rattle.mol_table_rules.specs.Writes.{AreNew, with_entities}
+use Rattle.mol_values_types.specs.declared.iblock.IBody.{IBody}
+use Rattle.mol_values_types.specs.declared.itype.IType.{IType}
+use Rattle.mol_values_types.specs.declared.itype.IType.TheFolds.{fold-roll-IType}
+use Rattle.mol_values_types.specs.declared.itype.IType.TheOpen.{IType-F}
+use Rattle.mol_values_types.specs.declared.itype.IType.TheVariants as types
+use Rattle.mol_values_types.specs.declared.kind.MethodKind.{MethodKind}
+use Rattle.mol_values_types.specs.declared.kind.MethodKind.TheVariants.{Instance, Static, Constructor}
+use Rattle.mol_values_types.specs.declared.known.Known.TheVariants as knowns
+use Rattle.mol_values_types.specs.declared.value.Value.TheVariants as values
 use Rattle.mol_op.specs.Changes.{Name, written}
-use Rattle.mol_op.specs.Fixed.{is_of_object}
+use Rattle.jav_names.specs.Members.{is_object_method}
 use Rattle.mol_op.specs.Kept.{is_constructor, may_be_params, are_formed}
 use Rattle.mol_op.specs.Rows.{add_method_tests, add_method_entities, add_constructor_tests, add_constructor_entities, entities_writes, param_tests, block_tests, body_tests}
 use Rattle.mol_op.specs.Seen.{named_params}
@@ -129,7 +129,7 @@ module _ (program : Program) (rules : IsProgram program) (op : AddMethod) (tag :
       ∙ ap (λ names. named_params op.method op.params ++ names) (names-block op.body op.kind op.decl (body_tests op.body) ∙ names-inside (body_mentions op.body))
       ∙ append-nil (named_params op.method op.params))
 
-  method-may-add : MayAdd program op.method op.decl op.owner op.name op.result op.params op.kind (is_of_object op.name (length op.params)) op.words op.notes op.body
+  method-may-add : MayAdd program op.method op.decl op.owner op.name op.result op.params op.kind (is_object_method op.name (length op.params)) op.words op.notes op.body
   method-may-add =
       let known = program.known in
       let test = makes (knowns.Param op.method) in
@@ -161,7 +161,7 @@ module _ (program : Program) (rules : IsProgram program) (op : AddMethod) (tag :
         may = and-right (not (is_constructor op.kind)) (may_be_params op.params) both;
         name_formed = kind-name op.kind op.name ordinary (and-left (is_formed (knowns.Method Instance) (values.Name op.name)) _ formed);
         result_formed = kind-result op.kind op.result ordinary (and-left (is_formed (knowns.Method Instance) (values.Result op.result)) _ after-name);
-        fixed_formed = kind-fixed op.kind (is_of_object op.name (length op.params)) ordinary;
+        fixed_formed = kind-fixed op.kind (is_object_method op.name (length op.params)) ordinary;
         words_formed = and-left (is_formed (knowns.Method Instance) (values.Words op.words)) _ after-result;
         notes_formed = and-left (is_formed (knowns.Method Instance) (values.Notes op.notes)) _ after-words;
         body_formed = and-left (is_formed (knowns.Method Instance) (values.Body op.body)) _ after-notes;
@@ -171,11 +171,11 @@ module _ (program : Program) (rules : IsProgram program) (op : AddMethod) (tag :
       }
 
   pub method-may : AreNew program (add_method_entities op)
-  method-may = two-may program rules op.method op.decl op.owner op.name op.result op.params op.kind (is_of_object op.name (length op.params)) op.words op.notes op.body method-may-add
+  method-may = two-may program rules op.method op.decl op.owner op.name op.result op.params op.kind (is_object_method op.name (length op.params)) op.words op.notes op.body method-may-add
 
   pub method-written : with_entities program (add_method_entities op) ≡ written program (entities_writes (add_method_entities op)) (tests_names (add_method_tests op))
   method-written =
-      two-written program rules op.method op.decl op.owner op.name op.result op.params op.kind (is_of_object op.name (length op.params)) op.words op.notes op.body method-may-add
+      two-written program rules op.method op.decl op.owner op.name op.result op.params op.kind (is_object_method op.name (length op.params)) op.words op.notes op.body method-may-add
       ∙ ap (written program (entities_writes (add_method_entities op))) (sym method-names)
 
 -- ---- add-constructor

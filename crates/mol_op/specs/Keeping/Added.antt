@@ -10,18 +10,18 @@ use Rattle.std.specs.declared.cmp.Ordering.{Ordering}
 use Rattle.std.specs.declared.cmp.Ordering.TheVariants.{Equal}
 use Rattle.mol_base.specs.Order.{id_cmp}
 use Rattle.mol_base.specs.declared.ident.Id.{Id}
-use Rattle.mol_table.specs.Forms.{is_formed}
-use Rattle.mol_table.specs.Program.{Program, Knowns, cell, same_id, value_at}
-use Rattle.mol_table.specs.Rules.{refers_rightly, is_declared, has_many}
-use Rattle.mol_table.specs.declared.entity.NewEntity.{NewEntity}
-use Rattle.mol_values.specs.Order.{cell_cmp, slot_number}
-use Rattle.mol_values.specs.Slots.{slot_of, slots_of, same_slot, has_slot, kind_of_known}
-use Rattle.mol_values.specs.declared.cell.Slot.{Slot}
-use Rattle.mol_values.specs.declared.cell.Slot.TheVariants as slots
-use Rattle.mol_values.specs.declared.kind.MethodKind.{MethodKind}
-use Rattle.mol_values.specs.declared.known.Known.{Known}
-use Rattle.mol_values.specs.declared.known.Known.TheVariants as knowns
-use Rattle.mol_values.specs.declared.value.Value.{Value}
+use Rattle.mol_table_rules.specs.Forms.{is_formed}
+use Rattle.mol_table_rules.specs.Program.{Program, Knowns, cell, same_id, value_at}
+use Rattle.mol_table_rules.specs.Rules.{refers_rightly, is_declared, has_many}
+use Rattle.mol_table_rules.specs.declared.entity.NewEntity.{NewEntity}
+use Rattle.mol_values_types.specs.Order.{cell_cmp, slot_number}
+use Rattle.mol_values_types.specs.Slots.{slot_of, slots_of, same_slot, has_slot, kind_of_known}
+use Rattle.mol_values_types.specs.declared.cell.Slot.{Slot}
+use Rattle.mol_values_types.specs.declared.cell.Slot.TheVariants as slots
+use Rattle.mol_values_types.specs.declared.kind.MethodKind.{MethodKind}
+use Rattle.mol_values_types.specs.declared.known.Known.{Known}
+use Rattle.mol_values_types.specs.declared.known.Known.TheVariants as knowns
+use Rattle.mol_values_types.specs.declared.value.Value.{Value}
 use Rattle.mol_op.specs.Changes.{Name, know_all, last_write, first_name, written}
 use Rattle.mol_op.specs.Keeps.{Keeps, IsKept, Agrees, Belongs, is_redeclared}
 use Rattle.mol_op.specs.Rows.{values_writes, entities_writes}

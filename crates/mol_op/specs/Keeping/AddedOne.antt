@@ -7,18 +7,18 @@ use Rattle.std.specs.FinMap.{get, insert}
 use Rattle.std.specs.List.{All, AllPairs, AllByRecursion, list_all}
 use Rattle.std.specs.Option.{option_or}
 use Rattle.mol_base.specs.declared.ident.Id.{Id}
-use Rattle.mol_table.specs.Forms.{is_formed}
-use Rattle.mol_table.specs.Mentions.{Mention, a_class, a_method, parent_mentions, type_mentions, maybe_mentions, body_mentions}
-use Rattle.mol_table.specs.Program.{Program, Knowns, cell, same_id}
-use Rattle.mol_table.specs.Rules.{IsProgram, fills, refers_rightly, is_declared, has_many}
-use Rattle.mol_table.specs.Writes.{AreNew, AreOfKind, with_entities, kept_or}
-use Rattle.mol_table.specs.declared.entity.NewEntity.{NewEntity}
-use Rattle.mol_values.specs.declared.cell.Slot.TheVariants as slots
-use Rattle.mol_values.specs.declared.kind.MethodKind.{MethodKind}
-use Rattle.mol_values.specs.declared.kind.MethodKind.TheVariants.{Instance}
-use Rattle.mol_values.specs.declared.known.Known.{Known}
-use Rattle.mol_values.specs.declared.known.Known.TheVariants as knowns
-use Rattle.mol_values.specs.declared.value.Value.TheVariants as values
+use Rattle.mol_table_rules.specs.Forms.{is_formed}
+use Rattle.mol_table_rules.specs.Mentions.{Mention, a_class, a_method, parent_mentions, type_mentions, maybe_mentions, body_mentions}
+use Rattle.mol_table_rules.specs.Program.{Program, Knowns, cell, same_id}
+use Rattle.mol_table_rules.specs.Rules.{IsProgram, fills, refers_rightly, is_declared, has_many}
+use Rattle.mol_table_rules.specs.Writes.{AreNew, AreOfKind, with_entities, kept_or}
+use Rattle.mol_table_rules.specs.declared.entity.NewEntity.{NewEntity}
+use Rattle.mol_values_types.specs.declared.cell.Slot.TheVariants as slots
+use Rattle.mol_values_types.specs.declared.kind.MethodKind.{MethodKind}
+use Rattle.mol_values_types.specs.declared.kind.MethodKind.TheVariants.{Instance}
+use Rattle.mol_values_types.specs.declared.known.Known.{Known}
+use Rattle.mol_values_types.specs.declared.known.Known.TheVariants as knowns
+use Rattle.mol_values_types.specs.declared.value.Value.TheVariants as values
 use Rattle.mol_op.specs.Changes.{Name, know_all, put_all, last_write, first_name, written}
 use Rattle.mol_op.specs.Operation.{Within}
 use Rattle.mol_op.specs.Rows.{entities_writes, add_class_tests, add_class_entities, new_class, add_field_tests, add_field_entities, new_field, add_override_tests, add_override_entities, new_decl, value_tests}

@@ -8,23 +8,23 @@ use Rattle.std.specs.List.{All, AllPairs, AllByRecursion, list_any}
 use Rattle.std.specs.Option.{option_or}
 use Rattle.mol_base.specs.Order.{id_cmp-total}
 use Rattle.mol_base.specs.declared.ident.Id.{Id}
-use Rattle.mol_table.specs.Forms.{is_formed, differ}
-use Rattle.mol_table.specs.Mentions.{a_class, a_method, type_mentions, body_mentions}
-use Rattle.mol_table.specs.Program.{Program, Knowns, cell, same_id}
-use Rattle.mol_table.specs.Rules.{IsProgram, fills, is_declared, has_many}
-use Rattle.mol_values.specs.Words.{is_declaration}
-use Rattle.mol_table.specs.Writes.{AreNew, AreOfKind, with_entities, with_params, kept_or}
-use Rattle.mol_table.specs.declared.entity.NewEntity.{NewEntity}
-use Rattle.mol_values.specs.declared.cell.Slot.TheVariants as slots
-use Rattle.mol_values.specs.declared.iblock.IBody.{IBody}
-use Rattle.mol_values.specs.declared.itype.IType.{IType}
-use Rattle.mol_values.specs.declared.kind.MethodKind.{MethodKind}
-use Rattle.mol_values.specs.declared.known.Known.{Known}
-use Rattle.mol_values.specs.declared.known.Known.TheVariants as knowns
-use Rattle.mol_values.specs.declared.param.Param.{Param}
-use Rattle.mol_values.specs.declared.value.Value.TheVariants as values
-use Rattle.mol_values.specs.declared.words.Notes.{Notes}
-use Rattle.mol_values.specs.declared.words.Words.{Words}
+use Rattle.mol_table_rules.specs.Forms.{is_formed, differ}
+use Rattle.mol_table_rules.specs.Mentions.{a_class, a_method, type_mentions, body_mentions}
+use Rattle.mol_table_rules.specs.Program.{Program, Knowns, cell, same_id}
+use Rattle.mol_table_rules.specs.Rules.{IsProgram, fills, is_declared, has_many}
+use Rattle.mol_values_types.specs.Words.{is_declaration}
+use Rattle.mol_table_rules.specs.Writes.{AreNew, AreOfKind, with_entities, with_params, kept_or}
+use Rattle.mol_table_rules.specs.declared.entity.NewEntity.{NewEntity}
+use Rattle.mol_values_types.specs.declared.cell.Slot.TheVariants as slots
+use Rattle.mol_values_types.specs.declared.iblock.IBody.{IBody}
+use Rattle.mol_values_types.specs.declared.itype.IType.{IType}
+use Rattle.mol_values_types.specs.declared.kind.MethodKind.{MethodKind}
+use Rattle.mol_values_types.specs.declared.known.Known.{Known}
+use Rattle.mol_values_types.specs.declared.known.Known.TheVariants as knowns
+use Rattle.mol_values_types.specs.declared.param.Param.{Param}
+use Rattle.mol_values_types.specs.declared.value.Value.TheVariants as values
+use Rattle.mol_values_types.specs.declared.words.Notes.{Notes}
+use Rattle.mol_values_types.specs.declared.words.Words.{Words}
 use Rattle.mol_op.specs.Changes.{Name, know_all, put_all, last_write, first_name, written}
 use Rattle.mol_op.specs.Keeps.{Belongs}
 use Rattle.mol_op.specs.Kept.{may_be_params}

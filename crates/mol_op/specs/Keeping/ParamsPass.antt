@@ -6,12 +6,12 @@ use Rattle.std.proofs.lemmas.List.Folds.{list_all-append}
 use Rattle.std.specs.FinMap.{get}
 use Rattle.std.specs.List.{AllByRecursion, list_all, list_any, flat_map}
 use Rattle.mol_base.specs.declared.ident.Id.{Id}
-use Rattle.mol_table.specs.Forms.{are_params, differ}
-use Rattle.mol_table.specs.Mentions.{Mention, param_mentions, type_mentions, a_listed_param}
-use Rattle.mol_table.specs.Program.{Knowns, same_id}
-use Rattle.mol_table.specs.Rules.{fills}
-use Rattle.mol_values.specs.declared.known.Known.TheVariants as knowns
-use Rattle.mol_values.specs.declared.param.Param.{Param}
+use Rattle.mol_table_rules.specs.Forms.{are_params, differ}
+use Rattle.mol_table_rules.specs.Mentions.{Mention, param_mentions, type_mentions, a_listed_param}
+use Rattle.mol_table_rules.specs.Program.{Knowns, same_id}
+use Rattle.mol_table_rules.specs.Rules.{fills}
+use Rattle.mol_values_types.specs.declared.known.Known.TheVariants as knowns
+use Rattle.mol_values_types.specs.declared.param.Param.{Param}
 use Rattle.mol_op.specs.Changes.{Name, first_name}
 use Rattle.mol_op.specs.Kept.{may_be_params}
 use Rattle.mol_op.specs.Operation.{Within}

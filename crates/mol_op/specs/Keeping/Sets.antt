@@ -6,18 +6,18 @@ use Rattle.std.specs.FinMap.{get}
 use Rattle.std.specs.List.{list_all}
 use Rattle.std.specs.Option.{option_or}
 use Rattle.mol_base.specs.declared.ident.Id.{Id}
-use Rattle.mol_table.specs.Forms.{is_formed}
-use Rattle.mol_table.specs.Mentions.{Role, Mention, a_class, a_field, a_method, a_called_method, a_static_method, a_constructor, a_param, a_listed_param, type_mentions, maybe_mentions, body_mentions}
-use Rattle.mol_table.specs.Program.{Program, Knowns, value_at}
-use Rattle.mol_table.specs.Rules.{IsProgram, fills, is_declared}
-use Rattle.mol_values.specs.declared.cell.Slot.TheVariants as slots
-use Rattle.mol_values.specs.declared.iblock.IBody.{IBody}
-use Rattle.mol_values.specs.declared.kind.MethodKind.{MethodKind}
-use Rattle.mol_values.specs.declared.kind.MethodKind.TheVariants.{Instance, Static, Constructor}
-use Rattle.mol_values.specs.declared.known.Known.{Known}
-use Rattle.mol_values.specs.declared.known.Known.TheVariants as knowns
-use Rattle.mol_values.specs.declared.value.Value.{Value}
-use Rattle.mol_values.specs.declared.value.Value.TheVariants as values
+use Rattle.mol_table_rules.specs.Forms.{is_formed}
+use Rattle.mol_table_rules.specs.Mentions.{Role, Mention, a_class, a_field, a_method, a_called_method, a_static_method, a_constructor, a_param, a_listed_param, type_mentions, maybe_mentions, body_mentions}
+use Rattle.mol_table_rules.specs.Program.{Program, Knowns, value_at}
+use Rattle.mol_table_rules.specs.Rules.{IsProgram, fills, is_declared}
+use Rattle.mol_values_types.specs.declared.cell.Slot.TheVariants as slots
+use Rattle.mol_values_types.specs.declared.iblock.IBody.{IBody}
+use Rattle.mol_values_types.specs.declared.kind.MethodKind.{MethodKind}
+use Rattle.mol_values_types.specs.declared.kind.MethodKind.TheVariants.{Instance, Static, Constructor}
+use Rattle.mol_values_types.specs.declared.known.Known.{Known}
+use Rattle.mol_values_types.specs.declared.known.Known.TheVariants as knowns
+use Rattle.mol_values_types.specs.declared.value.Value.{Value}
+use Rattle.mol_values_types.specs.declared.value.Value.TheVariants as values
 use Rattle.mol_op.specs.Keeps.{MaySet}
 use Rattle.mol_op.specs.Rows.{delete_tests, set_body_tests, set_value_tests, rename_class_tests, rename_method_tests, move_class_tests, move_method_tests, known_block_tests}
 use Rattle.mol_op.specs.Tests.{declares, condition, need_fault, may_mention, mention_fault, mentions_fault, same_kind, is_of_kind, declares_kind, test_fault, tests_fault, tests_names}

@@ -5,20 +5,20 @@ use Rattle.std.specs.FinMap.{get}
 use Rattle.std.specs.Option.{option_or}
 use Rattle.std.specs.Ordering.{eq_by_cmp}
 use Rattle.mol_base.specs.declared.ident.Id.{Id}
-use Rattle.mol_table.specs.Forms.{has_form, is_formed}
-use Rattle.mol_table.specs.Program.{Program, Knowns, cell, value_at}
-use Rattle.mol_table.specs.Rules.{IsProgram, is_declared}
-use Rattle.mol_table.specs.Writes.{with_value}
-use Rattle.mol_values.specs.Order.{cell_cmp, slot_number}
-use Rattle.mol_values.specs.Slots.{has_slot, slot_of, same_slot}
-use Rattle.mol_values.specs.declared.cell.Slot.{Slot}
-use Rattle.mol_values.specs.declared.cell.Slot.TheVariants as slots
-use Rattle.mol_values.specs.declared.iblock.IBody.{IBody}
-use Rattle.mol_values.specs.declared.kind.MethodKind.{MethodKind}
-use Rattle.mol_values.specs.declared.known.Known.{Known}
-use Rattle.mol_values.specs.declared.known.Known.TheVariants as knowns
-use Rattle.mol_values.specs.declared.value.Value.{Value}
-use Rattle.mol_values.specs.declared.value.Value.TheVariants as values
+use Rattle.mol_table_rules.specs.Forms.{has_form, is_formed}
+use Rattle.mol_table_rules.specs.Program.{Program, Knowns, cell, value_at}
+use Rattle.mol_table_rules.specs.Rules.{IsProgram, is_declared}
+use Rattle.mol_table_rules.specs.Writes.{with_value}
+use Rattle.mol_values_types.specs.Order.{cell_cmp, slot_number}
+use Rattle.mol_values_types.specs.Slots.{has_slot, slot_of, same_slot}
+use Rattle.mol_values_types.specs.declared.cell.Slot.{Slot}
+use Rattle.mol_values_types.specs.declared.cell.Slot.TheVariants as slots
+use Rattle.mol_values_types.specs.declared.iblock.IBody.{IBody}
+use Rattle.mol_values_types.specs.declared.kind.MethodKind.{MethodKind}
+use Rattle.mol_values_types.specs.declared.known.Known.{Known}
+use Rattle.mol_values_types.specs.declared.known.Known.TheVariants as knowns
+use Rattle.mol_values_types.specs.declared.value.Value.{Value}
+use Rattle.mol_values_types.specs.declared.value.Value.TheVariants as values
 use Rattle.mol_op.specs.Changes.{written}
 use Rattle.mol_op.specs.Keeps.{Keeps, Agrees, is_redeclared, is_plain, IsAllowed, MaySet}
 use Rattle.mol_op.specs.Rows.{write}

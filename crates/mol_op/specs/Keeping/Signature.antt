@@ -7,24 +7,24 @@ use Rattle.std.specs.List.{AllByRecursion, list_any}
 use Rattle.std.specs.Option.{option_or}
 use Rattle.std.specs.Ordering.{eq_by_cmp}
 use Rattle.mol_base.specs.declared.ident.Id.{Id}
-use Rattle.mol_table.specs.Forms.{has_form, is_formed, differ}
-use Rattle.mol_table.specs.Mentions.{a_method, type_mentions}
-use Rattle.mol_table.specs.Program.{Program, Knowns, cell, same_id, value_at}
-use Rattle.mol_table.specs.Rules.{IsProgram, fills}
-use Rattle.mol_table.specs.TypeForms.{is_void, is_type, is_result}
-use Rattle.mol_table.specs.Writes.{with_value}
-use Rattle.mol_values.specs.Order.{cell_cmp}
-use Rattle.mol_values.specs.Slots.{has_slot}
-use Rattle.mol_values.specs.declared.cell.Cell.{Cell}
-use Rattle.mol_values.specs.declared.cell.Slot.{Slot}
-use Rattle.mol_values.specs.declared.cell.Slot.TheVariants as slots
-use Rattle.mol_values.specs.declared.itype.IType.{IType}
-use Rattle.mol_values.specs.declared.kind.MethodKind.{MethodKind}
-use Rattle.mol_values.specs.declared.kind.MethodKind.TheVariants.{Instance, Static, Constructor}
-use Rattle.mol_values.specs.declared.known.Known.{Known}
-use Rattle.mol_values.specs.declared.known.Known.TheVariants as knowns
-use Rattle.mol_values.specs.declared.param.Param.{Param}
-use Rattle.mol_values.specs.declared.value.Value.TheVariants as values
+use Rattle.mol_table_rules.specs.Forms.{has_form, is_formed, differ}
+use Rattle.mol_table_rules.specs.Mentions.{a_method, type_mentions}
+use Rattle.mol_table_rules.specs.Program.{Program, Knowns, cell, same_id, value_at}
+use Rattle.mol_table_rules.specs.Rules.{IsProgram, fills}
+use Rattle.mol_table_rules.specs.TypeForms.{is_void, is_type, is_result}
+use Rattle.mol_table_rules.specs.Writes.{with_value}
+use Rattle.mol_values_types.specs.Order.{cell_cmp}
+use Rattle.mol_values_types.specs.Slots.{has_slot}
+use Rattle.mol_values_types.specs.declared.cell.Cell.{Cell}
+use Rattle.mol_values_types.specs.declared.cell.Slot.{Slot}
+use Rattle.mol_values_types.specs.declared.cell.Slot.TheVariants as slots
+use Rattle.mol_values_types.specs.declared.itype.IType.{IType}
+use Rattle.mol_values_types.specs.declared.kind.MethodKind.{MethodKind}
+use Rattle.mol_values_types.specs.declared.kind.MethodKind.TheVariants.{Instance, Static, Constructor}
+use Rattle.mol_values_types.specs.declared.known.Known.{Known}
+use Rattle.mol_values_types.specs.declared.known.Known.TheVariants as knowns
+use Rattle.mol_values_types.specs.declared.param.Param.{Param}
+use Rattle.mol_values_types.specs.declared.value.Value.TheVariants as values
 use Rattle.mol_op.specs.Changes.{Name, know_all, last_write, first_name, written}
 use Rattle.mol_op.specs.Keeps.{Keeps, Belongs, is_redeclared, MaySet}
 use Rattle.mol_op.specs.Kept.{may_be_params}

@@ -1,7 +1,7 @@
 //! Bodies, blocks and statements.
 ghost use Rattle.std.specs.Prelude.{map};
 ghost use Rattle.std.specs.List.{flat_map};
-ghost use Rattle.mol_table.specs.Mentions.{body_mentions, block_mentions, let_mentions, start_mentions};
+ghost use Rattle.mol_table_rules.specs.Mentions.{body_mentions, block_mentions, let_mentions, start_mentions};
 ghost use Rattle.mol_op.specs.Seen.{seen_by};
 ghost use Rattle.mol_op.specs.Statements.{statement_mentions, statements_mentions, node_mentions, if_mentions, else_mentions, names_mentions};
 ghost use Rattle.mol_op.specs.Tests.{IsVerdict, mentions_fault};
@@ -9,7 +9,7 @@ ghost use Rattle.mol_op.specs.Tests.{IsVerdict, mentions_fault};
 use crate::OpFault;
 use crate::mentions::Seen;
 use crate::mentions::iexpr::{check_all, check_arguments, check_expr, check_maybe, check_type};
-use mol_values::{IBlock, IBody, IDeclarator, IElse, IForStart, IIf, ILet, IStmt, IStmtNode};
+use mol_values_types::{IBlock, IBody, IDeclarator, IElse, IForStart, IIf, ILet, IStmt, IStmtNode};
 
 /// What the body mentions may be mentioned, where there is one.
 pub(crate) fn check_body(seen: &Seen<'_>, body: &Option<IBody>) -> Result<(), OpFault>

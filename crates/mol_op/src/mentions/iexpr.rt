@@ -1,12 +1,12 @@
 //! Types and expressions.
 ghost use Rattle.std.specs.Prelude.{map};
-ghost use Rattle.mol_table.specs.Mentions.{type_mentions, parent_mentions, expr_mentions, exprs_mentions, arguments_mentions, maybe_mentions};
+ghost use Rattle.mol_table_rules.specs.Mentions.{type_mentions, parent_mentions, expr_mentions, exprs_mentions, arguments_mentions, maybe_mentions};
 ghost use Rattle.mol_op.specs.Seen.{seen_by};
 ghost use Rattle.mol_op.specs.Tests.{IsVerdict, mentions_fault};
 
 use crate::OpFault;
 use crate::mentions::Seen;
-use mol_values::{Argument, IExpr, IType};
+use mol_values_types::{Argument, IExpr, IType};
 
 /// What the type mentions may be mentioned.
 pub(crate) fn check_type(seen: &Seen<'_>, ty: &IType) -> Result<(), OpFault>

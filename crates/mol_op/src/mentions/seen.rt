@@ -2,8 +2,8 @@
 ghost use Rattle.std.specs.Prelude.{◌≡◌};
 ghost use Rattle.std.specs.FinMap.{get};
 ghost use Rattle.std.specs.List.{list_any};
-ghost use Rattle.mol_table.specs.Mentions.{a_class, a_field, a_called_method, a_static_method, a_constructor};
-ghost use Rattle.mol_values.specs.Order.{id_eq};
+ghost use Rattle.mol_table_rules.specs.Mentions.{a_class, a_field, a_called_method, a_static_method, a_constructor};
+ghost use Rattle.mol_values_types.specs.Order.{id_eq};
 ghost use Rattle.mol_op.specs.Changes.{first_name};
 ghost use Rattle.mol_op.specs.Seen.{seen_by, added_names};
 ghost use Rattle.mol_op.specs.Tests.{IsVerdict, mention_fault};
@@ -11,7 +11,7 @@ ghost use Rattle.mol_op.specs.Tests.{IsVerdict, mention_fault};
 use crate::OpFault;
 use mol_base::Id;
 use mol_table::Table;
-use mol_values::{Known, MethodKind, Param};
+use mol_values_types::{Known, MethodKind, Param};
 
 /// What the values of an operation may mention: what the table knows, and what the operation itself adds.
 #[derive(Clone, Copy)]

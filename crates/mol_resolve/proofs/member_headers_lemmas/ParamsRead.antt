@@ -14,7 +14,7 @@ use Rattle.mol_resolve_readings.specs.reads.Reads.{Reads}
 use Rattle.mol_resolve_rules.specs.Outcomes.{TreeFault, all, both, mapped}
 use Rattle.mol_resolve_rules.specs.ReadTypes.{ReadType, read_type}
 use Rattle.mol_resolve_rules.specs.Readers.{Reader}
-use Rattle.mol_values.specs.declared.param.Param.{Param as Listed}
+use Rattle.mol_values_types.specs.declared.param.Param.{Param as Listed}
 
 module _ (reader : Reader ℕ MemberKey) (at : ℕ) (ids : List Id) (params : List Param) where
   abbrev pairs : List (Id × Param)

@@ -14,7 +14,7 @@ use mol_resolve_entities::{
 use mol_resolve_faults::FirstFault;
 use mol_resolve_readings::Names;
 use mol_resolve_stmt::StmtReader;
-use mol_values::{IBody, IExpr};
+use mol_values_types::{IBody, IExpr};
 use std::alloc::Global;
 
 /// A member at its place in source files, with its identities. Each call answers the entities that it is, or none where a name in it has no

@@ -10,7 +10,7 @@ use mol_base::{Id, List, OutOfMemory};
 use mol_resolve_entities::{listed, note_repeated};
 use mol_resolve_faults::FirstFault;
 use mol_resolve_readings::{Names, ReadType};
-use mol_values::Param;
+use mol_values_types::Param;
 use std::alloc::Global;
 
 /// The parameters of a declaration, which begins at this place in its file, in bytes from 0. One identity is given for each of them, in

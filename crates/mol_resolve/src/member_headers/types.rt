@@ -8,7 +8,7 @@ use jav_tree::TypeName;
 use mol_base::OutOfMemory;
 use mol_resolve_faults::FirstFault;
 use mol_resolve_readings::{Names, ReadType};
-use mol_values::IType;
+use mol_values_types::IType;
 use std::alloc::Global;
 
 /// A type in a member that begins at this place in its file, in bytes from 0. `None` where its name reads as nothing, which is noted.

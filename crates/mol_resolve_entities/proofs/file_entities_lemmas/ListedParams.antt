@@ -11,7 +11,7 @@ use Rattle.mol_resolve_rules.specs.Outcomes.{put_first}
 use Rattle.mol_resolve_rules.specs.ReadFiles.{read_params}
 use Rattle.mol_resolve_rules.specs.ReadTypes.{ReadType, read_type}
 use Rattle.mol_resolve_rules.specs.Readers.{Reader}
-use Rattle.mol_values.specs.declared.param.Param.{Param as Listed}
+use Rattle.mol_values_types.specs.declared.param.Param.{Param as Listed}
 use Rattle.mol_resolve_entities.specs.member_entities.Headings.{all_read, listed_as, param_read}
 
 abbrev pub listed_params : List Id → List Param → List (ReadType ℕ) → List Listed

@@ -21,12 +21,12 @@ use Rattle.mol_resolve_rules.specs.ReadFiles.{read_params, member_faults, superc
 use Rattle.mol_resolve_rules.specs.ReadTypes.{read_type}
 use Rattle.mol_resolve_rules.specs.Readers.{Reader}
 use Rattle.mol_resolve_rules.specs.ResolveFaults.{in_tree}
-use Rattle.mol_values.specs.Slots.{has_slot}
-use Rattle.mol_values.specs.declared.cell.Slot.{Slot}
-use Rattle.mol_values.specs.declared.itype.IType.{IType}
-use Rattle.mol_values.specs.declared.known.Known.{Known}
-use Rattle.mol_values.specs.declared.param.Param.{Param as Listed}
-use Rattle.mol_values.specs.declared.value.Value.{Value}
+use Rattle.mol_values_types.specs.Slots.{has_slot}
+use Rattle.mol_values_types.specs.declared.cell.Slot.{Slot}
+use Rattle.mol_values_types.specs.declared.itype.IType.{IType}
+use Rattle.mol_values_types.specs.declared.known.Known.{Known}
+use Rattle.mol_values_types.specs.declared.param.Param.{Param as Listed}
+use Rattle.mol_values_types.specs.declared.value.Value.{Value}
 use Rattle.mol_resolve_entities.specs.file_entities.EntitiesRead.{IsMemberAt, placed_at}
 use Rattle.mol_resolve_entities.proofs.file_entities_lemmas.ListedParams.{listed_params, listed-value}
 use Rattle.mol_resolve_entities.specs.member_entities.Headings.{all_read, tree_in, tree_read}

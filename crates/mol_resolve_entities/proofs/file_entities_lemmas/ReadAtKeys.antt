@@ -28,16 +28,16 @@ use Rattle.mol_resolve_rules.specs.ReadFiles.{declared_ids, file_reader, read_bl
 use Rattle.mol_resolve_rules.specs.ReadStatements.{read_body, read_initial}
 use Rattle.mol_resolve_rules.specs.ReadTypes.{ReadType, read_type}
 use Rattle.mol_resolve_rules.specs.Readers.{Reader}
-use Rattle.mol_table.specs.declared.entity.NewEntity.{NewEntity}
-use Rattle.mol_values.specs.declared.cell.Slot.TheVariants as slots
-use Rattle.mol_values.specs.declared.iblock.IBody.{IBody}
-use Rattle.mol_values.specs.declared.iexpr.IExpr.{IExpr}
-use Rattle.mol_values.specs.declared.itype.IType.{IType}
-use Rattle.mol_values.specs.declared.itype.IType.TheVariants as types
-use Rattle.mol_values.specs.declared.kind.MethodKind.TheVariants.{Instance, Static, Constructor}
-use Rattle.mol_values.specs.declared.known.Known.TheVariants as knowns
-use Rattle.mol_values.specs.declared.param.Param.{Param as Listed}
-use Rattle.mol_values.specs.declared.value.Value.TheVariants as values
+use Rattle.mol_table_rules.specs.declared.entity.NewEntity.{NewEntity}
+use Rattle.mol_values_types.specs.declared.cell.Slot.TheVariants as slots
+use Rattle.mol_values_types.specs.declared.iblock.IBody.{IBody}
+use Rattle.mol_values_types.specs.declared.iexpr.IExpr.{IExpr}
+use Rattle.mol_values_types.specs.declared.itype.IType.{IType}
+use Rattle.mol_values_types.specs.declared.itype.IType.TheVariants as types
+use Rattle.mol_values_types.specs.declared.kind.MethodKind.TheVariants.{Instance, Static, Constructor}
+use Rattle.mol_values_types.specs.declared.known.Known.TheVariants as knowns
+use Rattle.mol_values_types.specs.declared.param.Param.{Param as Listed}
+use Rattle.mol_values_types.specs.declared.value.Value.TheVariants as values
 use Rattle.mol_resolve_entities.specs.member_entities.Headings.{all_read, superclass_read, tree_in, tree_read}
 use Rattle.mol_resolve_entities.specs.member_entities.Made.{constructor_made, field_made, kind_of_method, method_made}
 use Rattle.mol_resolve_entities.specs.member_entities.Outcomes.{constructor_read, field_read, method_read}

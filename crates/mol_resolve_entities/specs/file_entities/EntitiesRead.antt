@@ -16,7 +16,7 @@ use Rattle.mol_resolve_rules.specs.Outcomes.{Outcome}
 use Rattle.mol_resolve_rules.specs.ReadAs.{HasNoFault}
 use Rattle.mol_resolve_rules.specs.ReadFiles.{file_reader, member_reader, member_faults, superclass_faults}
 use Rattle.mol_resolve_rules.specs.Readers.{Reader}
-use Rattle.mol_values.specs.declared.itype.IType.{IType}
+use Rattle.mol_values_types.specs.declared.itype.IType.{IType}
 use Rattle.mol_resolve_entities.specs.member_entities.Headings.{superclass_read}
 use Rattle.mol_resolve_entities.specs.member_entities.Outcomes.{constructor_read, field_read, method_read}
 use Rattle.mol_resolve_entities.specs.declared.member_entities.member_entities.MemberEntities.{MemberEntities}

@@ -10,8 +10,8 @@ use Rattle.mol_resolve_rules.specs.Outcomes.{Outcome, mapped, all, maybe}
 use Rattle.mol_resolve_rules.specs.ReadFiles.{repeated_faults}
 use Rattle.mol_resolve_rules.specs.ReadTypes.{ReadType, read_type}
 use Rattle.mol_resolve_rules.specs.Readers.{Reader}
-use Rattle.mol_values.specs.declared.itype.IType.{IType}
-use Rattle.mol_values.specs.declared.param.Param.{Param as Listed}
+use Rattle.mol_values_types.specs.declared.itype.IType.{IType}
+use Rattle.mol_values_types.specs.declared.param.Param.{Param as Listed}
 
 -- one more item after others
 abbrev pub put_last : {A : Type 0} → List A × A → List A

@@ -7,7 +7,7 @@ use crate::member_entities::member_entities::{Heading, MemberEntities, declared,
 use crate::member_entities::member_ids::{MemberIds, MethodIds};
 use jav_tree::Ctor;
 use mol_base::{List, OutOfMemory, Text};
-use mol_values::{IBody, IType, MethodKind, Param};
+use mol_values_types::{IBody, IType, MethodKind, Param};
 use std::alloc::Global;
 
 /// A declaration of a constructor, of its parameters and its body, and the constructor itself: it has no name and gives `void`. None,

@@ -8,7 +8,7 @@ use crate::member_entities::member_entities::MemberEntities;
 use crate::member_entities::member_ids::MemberIds;
 use jav_tree::Field;
 use mol_base::OutOfMemory;
-use mol_values::{IExpr, IType};
+use mol_values_types::{IExpr, IType};
 use std::alloc::Global;
 
 /// A field, of its type and its first value, if it has one. None, where one of these has no meaning.

@@ -6,8 +6,8 @@ ghost use Rattle.mol_resolve_entities.specs.member_entities.Made.{with_method};
 use crate::member_entities::member_ids::{MemberIds, MethodIds};
 use crate::{declaration_entity, method_entity};
 use mol_base::{List, OutOfMemory, Text};
-use mol_table::NewEntity;
-use mol_values::{IBody, IType, MethodKind, Param};
+use mol_table_rules::NewEntity;
+use mol_values_types::{IBody, IType, MethodKind, Param};
 use std::alloc::Global;
 
 /// The entities of a member: its own, and that of its method where it is the topmost declaration of one.

@@ -7,7 +7,7 @@ use crate::member_entities::member_entities::{Heading, MemberEntities, declared,
 use crate::member_entities::member_ids::{MemberIds, MethodIds};
 use jav_tree::Method;
 use mol_base::{List, OutOfMemory};
-use mol_values::{IBody, IType, MethodKind, Param};
+use mol_values_types::{IBody, IType, MethodKind, Param};
 use std::alloc::Global;
 
 /// A declaration of a method, of the type that it gives, its parameters and its body, if it has one; and the method, where this is its

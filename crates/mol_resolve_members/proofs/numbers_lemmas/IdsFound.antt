@@ -7,7 +7,7 @@ use Rattle.jav_names.specs.UnitViews.{MemberKey}
 use Rattle.jav_names.specs.Views.{ViewDeclaration}
 use Rattle.jav_scope.specs.Entries.{view_in}
 use Rattle.jav_scope.specs.declared.source.SourceUnit.{SourceUnit}
-use Rattle.mol_table.specs.Renumber.{base_id}
+use Rattle.mol_table_rules.specs.Renumber.{base_id}
 use Rattle.mol_resolve_members.specs.places.Orders.{numbers_by_path, position}
 use Rattle.mol_resolve_members.specs.sources.Sources.{files_of}
 use Rattle.mol_resolve_members.proofs.sources_lemmas.Sourced.{sources_viewed}

@@ -8,7 +8,7 @@ ghost use Rattle.mol_resolve_members.specs.places.Orders.{numbers_by_path};
 ghost use Rattle.mol_resolve_members.specs.sources.Sources.{files_of};
 ghost use Rattle.mol_resolve_rules.specs.Files.{declaration_at};
 ghost use Rattle.mol_resolve_rules.specs.Numbering.{ids_of, same_key, topmost};
-ghost use Rattle.mol_table.specs.Renumber.{base_id};
+ghost use Rattle.mol_table_rules.specs.Renumber.{base_id};
 ghost use Rattle.mol_resolve_members.specs.numbers.Given.{first_after, method_number};
 ghost use Rattle.mol_resolve_members.specs.numbers.Members.{HasArity, keys_of};
 

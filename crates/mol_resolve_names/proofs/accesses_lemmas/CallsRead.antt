@@ -24,9 +24,9 @@ use Rattle.mol_resolve_rules.specs.FaultKinds.{receiver_type, static_by_instance
 use Rattle.mol_resolve_rules.specs.Outcomes.{Outcome, TreeFault, fine, given, refused}
 use Rattle.mol_resolve_rules.specs.Readers.{Reader}
 use Rattle.mol_resolve_rules.specs.ReadTrees.{Meant, arguments_of, call_here, call_on, call_through, own_call, static_call, super_call}
-use Rattle.mol_values.specs.declared.iexpr.Argument.{Argument}
-use Rattle.mol_values.specs.declared.iexpr.IExpr.{IExpr}
-use Rattle.mol_values.specs.declared.iexpr.IExpr.TheVariants as exprs
+use Rattle.mol_values_types.specs.declared.iexpr.Argument.{Argument}
+use Rattle.mol_values_types.specs.declared.iexpr.IExpr.{IExpr}
+use Rattle.mol_values_types.specs.declared.iexpr.IExpr.TheVariants as exprs
 
 abbrev Declaration : Type 0
 Declaration = ViewDeclaration ℕ MemberKey

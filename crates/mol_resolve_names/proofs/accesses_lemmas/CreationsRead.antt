@@ -25,10 +25,10 @@ use Rattle.mol_resolve_rules.specs.Outcomes.{TreeFault}
 use Rattle.mol_resolve_rules.specs.Readers.{Ids, Reader}
 use Rattle.mol_resolve_rules.specs.ReadStatements.{super_read}
 use Rattle.mol_resolve_rules.specs.ReadTrees.{Meant, class_created}
-use Rattle.mol_values.specs.declared.iblock.IStmtNode.{IStmtNode}
-use Rattle.mol_values.specs.declared.iblock.IStmtNode.TheVariants as nodes
-use Rattle.mol_values.specs.declared.iexpr.Argument.{Argument}
-use Rattle.mol_values.specs.declared.iexpr.IExpr.{IExpr}
+use Rattle.mol_values_types.specs.declared.iblock.IStmtNode.{IStmtNode}
+use Rattle.mol_values_types.specs.declared.iblock.IStmtNode.TheVariants as nodes
+use Rattle.mol_values_types.specs.declared.iexpr.Argument.{Argument}
+use Rattle.mol_values_types.specs.declared.iexpr.IExpr.{IExpr}
 
 abbrev Read : Type 0
 Read = Result (Constructor ℕ MemberKey)

@@ -16,8 +16,8 @@ use Rattle.mol_resolve_rules.specs.FaultKinds.{FaultKind}
 use Rattle.mol_resolve_rules.specs.Outcomes.{TreeFault, fine, given, refused, silent}
 use Rattle.mol_resolve_rules.specs.Readers.{Ids, Reader}
 use Rattle.mol_resolve_rules.specs.ReadTrees.{arguments_of}
-use Rattle.mol_values.specs.declared.iexpr.Argument.{Argument}
-use Rattle.mol_values.specs.declared.iexpr.IExpr.{IExpr}
+use Rattle.mol_values_types.specs.declared.iexpr.Argument.{Argument}
+use Rattle.mol_values_types.specs.declared.iexpr.IExpr.{IExpr}
 
 pub reads-fine : {A : Type 0} (value made : A) (first : Option TreeFault) → made ≡ value → Reads (fine value) (Some made) first first
 reads-fine value made first is = record { value_read = ap (λ v. Some v) is; faults_noted = refl }

@@ -21,7 +21,7 @@ use Rattle.mol_resolve_rules.specs.Locals.{Locals}
 use Rattle.mol_resolve_rules.specs.Outcomes.{TreeFault, fine}
 use Rattle.mol_resolve_rules.specs.Readers.{Reader, place_of}
 use Rattle.mol_resolve_rules.specs.ReadTrees.{Meant, name_alone, name_before, name_meant}
-use Rattle.mol_values.specs.declared.iexpr.IExpr.TheVariants as exprs
+use Rattle.mol_values_types.specs.declared.iexpr.IExpr.TheVariants as exprs
 use Rattle.mol_resolve_names.specs.lone_names.Variables.{IsOver, IsVariable, value_of}
 use Rattle.mol_resolve_names.specs.declared.lone_names.variable.Variable.{Variable}
 use Rattle.mol_resolve_names.proofs.lone_names_lemmas.VariablesMeant.{variable-meant}

@@ -18,7 +18,7 @@ use Rattle.mol_resolve_rules.specs.Locals.{Local, Locals}
 use Rattle.mol_resolve_rules.specs.Outcomes.{fine}
 use Rattle.mol_resolve_rules.specs.Readers.{Ids, Reader, Parameter as Seen}
 use Rattle.mol_resolve_rules.specs.ReadTrees.{local_meant, param_meant, valued, variable_meant}
-use Rattle.mol_values.specs.declared.iexpr.IExpr.TheVariants as exprs
+use Rattle.mol_values_types.specs.declared.iexpr.IExpr.TheVariants as exprs
 use Rattle.mol_resolve_names.specs.lone_names.Variables.{IsLocal, IsOver, IsVariable, value_of}
 use Rattle.mol_resolve_names.specs.declared.lone_names.variable.Variable.{Variable}
 use Rattle.mol_resolve_names.specs.declared.lone_names.variable.Variable.TheVariants as variable

@@ -9,7 +9,7 @@ use Rattle.jav_names.specs.UnitViews.{MemberKey}
 use Rattle.jav_names.specs.Views.{ViewType}
 use Rattle.mol_resolve_rules.specs.Readers.{Parameter, Reader}
 use Rattle.mol_resolve_rules.specs.ReadTypes.{named_tree, read_type, seen_type, type_or_fault, type_step, type_tree}
-use Rattle.mol_values.specs.declared.itype.IType.{IType}
+use Rattle.mol_values_types.specs.declared.itype.IType.{IType}
 
 module _ (reader : Reader ℕ MemberKey) (params : List (Parameter ℕ)) (in_constructor : Bool) where
   abbrev within : Reader ℕ MemberKey

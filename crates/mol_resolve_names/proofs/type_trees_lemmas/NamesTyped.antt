@@ -19,7 +19,7 @@ use Rattle.mol_resolve_rules.specs.Files.{File}
 use Rattle.mol_resolve_rules.specs.Readers.{Reader}
 use Rattle.mol_resolve_rules.specs.ReadFiles.{file_reader}
 use Rattle.mol_resolve_rules.specs.ReadTypes.{named_tree, seen_type, type_tree}
-use Rattle.mol_values.specs.declared.itype.IType.{IType}
+use Rattle.mol_values_types.specs.declared.itype.IType.{IType}
 
 module _ (sources : List SourceUnit) (unit : ℕ) (source : SourceUnit) where
   abbrev pub reader : Reader ℕ MemberKey

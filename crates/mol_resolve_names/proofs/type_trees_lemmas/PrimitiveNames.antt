@@ -5,8 +5,8 @@ use Rattle.std.proofs.lemmas.Slice.Eq.{bytes_eq-Decides}
 use Rattle.jav_names.proofs.Lists.{Decides-fails}
 use Rattle.jav_names.specs.DottedNames.{Name}
 use Rattle.mol_resolve_rules.specs.ReadTypes.{primitive_tree}
-use Rattle.mol_values.specs.declared.itype.IType.{IType}
-use Rattle.mol_values.specs.declared.itype.IType.TheVariants as types
+use Rattle.mol_values_types.specs.declared.itype.IType.{IType}
+use Rattle.mol_values_types.specs.declared.itype.IType.TheVariants as types
 
 abbrev Primitives : Type 0
 Primitives = List (String × IType)

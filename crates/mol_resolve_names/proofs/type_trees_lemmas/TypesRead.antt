@@ -9,7 +9,7 @@ use Rattle.mol_resolve_readings.specs.reads.Reads.{Reads}
 use Rattle.mol_resolve_rules.specs.Outcomes.{TreeFault}
 use Rattle.mol_resolve_rules.specs.Readers.{Reader}
 use Rattle.mol_resolve_rules.specs.ReadTypes.{read_type, seen_type, type_or_fault, type_tree}
-use Rattle.mol_values.specs.declared.itype.IType.{IType}
+use Rattle.mol_values_types.specs.declared.itype.IType.{IType}
 
 pub type_there : (reader : Reader ℕ MemberKey) (at : ℕ) (ty : TypeName) (tree : IType) (seen : SeenType) (faults : Option TreeFault)
     → Some tree ≡ type_tree reader ty → view_type seen ≡ seen_type reader ty

@@ -15,7 +15,7 @@ use Rattle.mol_resolve_rules.specs.Locals.{Local, Locals}
 use Rattle.mol_resolve_rules.specs.Numbering.{ids_of}
 use Rattle.mol_resolve_rules.specs.Readers.{Reader}
 use Rattle.mol_resolve_rules.specs.ReadTrees.{Meant}
-use Rattle.mol_values.specs.declared.iexpr.IExpr.TheVariants as exprs
+use Rattle.mol_values_types.specs.declared.iexpr.IExpr.TheVariants as exprs
 use Rattle.mol_resolve_names.specs.declared.lone_names.variable.Variable.{Variable}
 use Rattle.mol_resolve_names.specs.declared.lone_names.variable.Variable.TheVariants as variable
 

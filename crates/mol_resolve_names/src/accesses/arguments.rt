@@ -9,7 +9,7 @@ ghost use Rattle.mol_resolve_rules.specs.ReadTrees.{arguments_of, with_params};
 
 use mol_base::{Id, List, OutOfMemory};
 use mol_resolve_members::{Finder, FoundMethod};
-use mol_values::{Argument, IExpr};
+use mol_values_types::{Argument, IExpr};
 use std::alloc::Global;
 
 /// The arguments of a call of a method, each with its parameter; none where an argument has no value.

@@ -16,7 +16,7 @@ use mol_resolve_faults::{FaultKind, FirstFault};
 use mol_resolve_members::{Finder, OnValue};
 use mol_resolve_readings::Meant;
 use mol_resolve_readings::meant::calls;
-use mol_values::IExpr;
+use mol_values_types::IExpr;
 use std::alloc::Global;
 
 /// A call without anything before it, in the class of this number. Where there is no such method, that is noted at this place.

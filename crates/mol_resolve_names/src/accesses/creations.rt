@@ -8,7 +8,7 @@ ghost use Rattle.mol_resolve_readings.specs.reads.Reads.{Reads};
 ghost use Rattle.mol_resolve_rules.specs.Readers.{Reader};
 ghost use Rattle.mol_resolve_rules.specs.ReadStatements.{super_read};
 ghost use Rattle.mol_resolve_rules.specs.ReadTrees as trees;
-ghost use Rattle.mol_values.specs.declared.iblock.IStmtNode.TheVariants as nodes;
+ghost use Rattle.mol_values_types.specs.declared.iblock.IStmtNode.TheVariants as nodes;
 
 use crate::accesses::arguments::arguments;
 use jav_names::SeenType;
@@ -18,7 +18,7 @@ use mol_resolve_faults::{FaultKind, FirstFault};
 use mol_resolve_members::{Finder, FoundConstructor};
 use mol_resolve_readings::meant::creations;
 use mol_resolve_readings::{Meant, ReadType};
-use mol_values::{Argument, IExpr, IStmtNode};
+use mol_values_types::{Argument, IExpr, IStmtNode};
 use std::alloc::Global;
 
 /// A creation of an object of a type. Where a class has no constructor with so many parameters, that is noted at this place.

@@ -7,7 +7,7 @@ use crate::lone_names::variable::Variable;
 use mol_base::OutOfMemory;
 use mol_resolve_readings::Meant;
 use mol_resolve_readings::meant::fields;
-use mol_values::IExpr;
+use mol_values_types::IExpr;
 use std::alloc::Global;
 
 /// A variable as it is read.

@@ -13,7 +13,7 @@ use jav_tree::{Expr, TypeName};
 use mol_base::{List, OutOfMemory, Text};
 use mol_resolve_faults::{FaultKind, FirstFault};
 use mol_resolve_readings::{Chain, Locals, Meant, Names, ReadType};
-use mol_values::{IExpr, IStmtNode};
+use mol_values_types::{IExpr, IStmtNode};
 use std::alloc::Global;
 
 impl Names for MemberNames<'_> {

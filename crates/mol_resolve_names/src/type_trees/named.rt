@@ -7,12 +7,12 @@ ghost use Rattle.mol_resolve_members.specs.sources.Sources.{file_of, files_of};
 ghost use Rattle.mol_resolve_rules.specs.Files.{File};
 ghost use Rattle.mol_resolve_rules.specs.ReadFiles.{file_reader};
 ghost use Rattle.mol_resolve_rules.specs.ReadTypes.{named_tree, type_tree};
-ghost use Rattle.mol_values.specs.declared.itype.IType.TheVariants as trees;
+ghost use Rattle.mol_values_types.specs.declared.itype.IType.TheVariants as trees;
 
 use jav_scope::{Scope, TypeReading, type_reading};
 use mol_base::{Boxed, OutOfMemory, Text};
 use mol_resolve_members::Numbers;
-use mol_values::IType;
+use mol_values_types::IType;
 use std::alloc::Global;
 
 /// The type of a name in the file of this number; none where it reads as nothing (JLS 6.5.5).

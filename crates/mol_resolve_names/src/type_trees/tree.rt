@@ -4,14 +4,14 @@ ghost use Rattle.jav_scope.specs.declared.source.SourceUnit.{SourceUnit};
 ghost use Rattle.mol_resolve_members.specs.sources.Sources.{file_of, files_of};
 ghost use Rattle.mol_resolve_rules.specs.ReadFiles.{file_reader};
 ghost use Rattle.mol_resolve_rules.specs.ReadTypes.{primitive_tree, type_tree};
-ghost use Rattle.mol_values.specs.declared.itype.IType.TheVariants as types;
+ghost use Rattle.mol_values_types.specs.declared.itype.IType.TheVariants as types;
 
 use crate::type_trees::named::named_tree;
 use jav_scope::Scope;
 use jav_tree::TypeName;
 use mol_base::{Boxed, OutOfMemory, Text};
 use mol_resolve_members::Numbers;
-use mol_values::IType;
+use mol_values_types::IType;
 use std::alloc::Global;
 
 /// A type in the file of this number as a type of a program; none where its name reads as nothing.

@@ -7,9 +7,9 @@ use Rattle.jav_names.specs.StaticTypes.{of_type, item, outside_field, outside_ca
 use Rattle.jav_names.specs.Views.{ViewType}
 use Rattle.mol_resolve_rules.specs.ReadTrees.{Meant, arrays, unary_type, binary_type}
 use Rattle.mol_resolve_rules.specs.ReadTypes.{ReadType}
-use Rattle.mol_values.specs.declared.iexpr.Argument.{Argument}
-use Rattle.mol_values.specs.declared.iexpr.IExpr.{IExpr}
-use Rattle.mol_values.specs.declared.iexpr.IExpr.TheVariants as exprs
+use Rattle.mol_values_types.specs.declared.iexpr.Argument.{Argument}
+use Rattle.mol_values_types.specs.declared.iexpr.IExpr.{IExpr}
+use Rattle.mol_values_types.specs.declared.iexpr.IExpr.TheVariants as exprs
 
 -- what is not `this`
 abbrev pub made : IExpr → StaticType ℕ → Meant ℕ

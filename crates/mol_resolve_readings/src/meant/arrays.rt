@@ -10,7 +10,7 @@ use crate::meant::meant::Meant;
 use crate::meant::read_type::ReadType;
 use jav_names::{SeenType, StaticType};
 use mol_base::{Boxed, List, OutOfMemory};
-use mol_values::IExpr;
+use mol_values_types::IExpr;
 use std::alloc::Global;
 
 /// A new array: the type before all brackets, the sizes of the first dimensions, and how many pairs of empty brackets follow them.

@@ -7,7 +7,7 @@ ghost use Rattle.mol_resolve_readings.specs.meant.Made as spec;
 use crate::meant::meant::Meant;
 use jav_names::{SeenType, StaticType};
 use mol_base::{Id, List, OutOfMemory, Text};
-use mol_values::{Argument, IExpr};
+use mol_values_types::{Argument, IExpr};
 use std::alloc::Global;
 
 /// A call of a method of `this`, or of a static one, by its identity and the type of its result.

@@ -7,7 +7,7 @@ use crate::meant::meant::Meant;
 use crate::meant::read_type::ReadType;
 use jav_names::StaticType;
 use mol_base::{Id, List, OutOfMemory};
-use mol_values::{Argument, IExpr};
+use mol_values_types::{Argument, IExpr};
 use std::alloc::Global;
 
 /// A creation by a constructor of a class, by the number of the class's file and the constructor's identity.

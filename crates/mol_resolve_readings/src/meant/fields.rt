@@ -7,7 +7,7 @@ ghost use Rattle.mol_resolve_readings.specs.meant.Made as spec;
 use crate::meant::meant::Meant;
 use jav_names::SeenType;
 use mol_base::{Id, OutOfMemory, Text};
-use mol_values::IExpr;
+use mol_values_types::IExpr;
 use std::alloc::Global;
 
 /// A field of `this`, or a static one, of a type.

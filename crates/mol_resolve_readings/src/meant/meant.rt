@@ -5,11 +5,11 @@ ghost use Rattle.jav_names.specs.OnValues.{outside_value};
 ghost use Rattle.jav_names.specs.StaticTypes.{of_type, of_literal};
 ghost use Rattle.mol_resolve_readings.specs.meant.Kept.{view_meant};
 ghost use Rattle.mol_resolve_readings.specs.meant.Made.{made, this_in};
-ghost use Rattle.mol_values.specs.declared.iexpr.IExpr.TheVariants as exprs;
+ghost use Rattle.mol_values_types.specs.declared.iexpr.IExpr.TheVariants as exprs;
 
 use jav_names::{SeenType, StaticType};
 use mol_base::{Boxed, OutOfMemory, Text};
-use mol_values::IExpr;
+use mol_values_types::IExpr;
 use std::alloc::Global;
 
 /// An expression as it is read.

@@ -10,7 +10,7 @@ use crate::meant::meant::Meant;
 use crate::meant::read_type::ReadType;
 use jav_names::StaticType;
 use mol_base::{OutOfMemory, Text, is_step};
-use mol_values::IExpr;
+use mol_values_types::IExpr;
 use std::alloc::Global;
 
 /// An operator before an operand: `++` and `--` have the type of what they step, the others are primitive (JLS 15.15).

@@ -2,7 +2,7 @@
 ghost use Rattle.std.specs.Prelude.{◌≡◌};
 
 use jav_names::SeenType;
-use mol_values::IType;
+use mol_values_types::IType;
 
 /// A type as it is read: as a program keeps it, and as the rules on names look at it.
 #[derive(Drop)]

@@ -25,7 +25,7 @@ use jav_names::{SeenType, StaticType};
 use jav_tree::{Expr, TypeName};
 use mol_base::{List, OutOfMemory, Text};
 use mol_resolve_faults::FirstFault;
-use mol_values::{IExpr, IStmtNode};
+use mol_values_types::{IExpr, IStmtNode};
 use std::alloc::Global;
 
 /// What names mean at a place: in a class, with parameters in scope. Each call answers what an expression or a type means whose parts

@@ -7,8 +7,8 @@ use Rattle.jav_names.specs.DottedNames.{Name}
 use Rattle.mol_scope.specs.asked.Answers.{same_target, is_answer}
 use Rattle.mol_base.specs.declared.ident.Id.{Id}
 use Rattle.mol_spell_rules.specs.references.References.{Target, class_target, field_target, method_target, param_target, default_target, local_target, outside_target}
-use Rattle.mol_table.proofs.Living.{same_id-own, id_tied}
-use Rattle.mol_table.specs.Program.{same_id}
+use Rattle.mol_table_rules.proofs.Living.{same_id-own, id_tied}
+use Rattle.mol_table_rules.specs.Program.{same_id}
 
 -- identities of one kind
 by-id : (make : Id → Target) (first second : Id) → (make second ≡ make first → second ≡ first)

@@ -16,11 +16,11 @@ use Rattle.mol_base.specs.declared.ident.Id.{Id}
 use Rattle.mol_resolve_rules.proofs.ProgramsViewed.{programs_viewed}
 use Rattle.mol_resolve_rules.proofs.Stands.{from_some}
 use Rattle.mol_resolve_rules.specs.ProgramViews.{declaration_of, field_of, kind_in, living_declaration, living_field, method_at, method_in, program_view, words_in}
-use Rattle.mol_table.proofs.Counts.{each_found}
-use Rattle.mol_table.specs.Program.{Program, living_at, owner_at, value_at}
-use Rattle.mol_values.specs.declared.cell.Slot.TheVariants as slots
-use Rattle.mol_values.specs.declared.known.Known.{Known}
-use Rattle.mol_values.specs.declared.known.Known.TheVariants as knowns
+use Rattle.mol_table_rules.proofs.Counts.{each_found}
+use Rattle.mol_table_rules.specs.Program.{Program, living_at, owner_at, value_at}
+use Rattle.mol_values_types.specs.declared.cell.Slot.TheVariants as slots
+use Rattle.mol_values_types.specs.declared.known.Known.{Known}
+use Rattle.mol_values_types.specs.declared.known.Known.TheVariants as knowns
 
 of-all : {X : Type 0} (P : X → Type 0) (xs : List X) → AllByRecursion P xs → (x : X) → Contains xs x → P x
 of-all P [] all x stands = absurd (stands_nowhere x stands)

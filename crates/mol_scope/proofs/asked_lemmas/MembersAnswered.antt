@@ -19,7 +19,7 @@ use Rattle.mol_resolve_rules.specs.ProgramViews.{kind_in, method_at, program_vie
 use Rattle.mol_resolve_rules.specs.Readers.{Reader}
 use Rattle.mol_resolve_rules.specs.ReadTrees.{whole_path}
 use Rattle.mol_spell_rules.specs.Answers.{call_answer, constructor_answer, field_of, field_through_answer, method_of, method_through_answer, on_value_answer, super_method_answer}
-use Rattle.mol_table.specs.Program.{Program}
+use Rattle.mol_table_rules.specs.Program.{Program}
 
 -- a member of an array: outside, or missing
 pub array-member : {X : Type 0} (reader : Reader Id Id) (name : Name) (target : X → Target) (b : Bool)

@@ -24,7 +24,7 @@ use Rattle.mol_resolve_rules.specs.ProgramReaders.{parameter_in}
 use Rattle.mol_resolve_rules.specs.ProgramViews.{program_view}
 use Rattle.mol_resolve_rules.specs.Readers.{Parameter, place_of}
 use Rattle.mol_spell_rules.specs.Answers.{name_answer, variable_answer}
-use Rattle.mol_values.specs.declared.param.Param.{Param}
+use Rattle.mol_values_types.specs.declared.param.Param.{Param}
 use Rattle.mol_scope.specs.variables.Keys.{variable_key}
 use Rattle.mol_scope.specs.declared.variables.variable.Variable.{Variable}
 use Rattle.mol_scope.specs.declared.variables.variable.Variable.TheVariants as kept

@@ -8,10 +8,10 @@ use Rattle.mol_resolve_rules.specs.ReadTrees.{arrays}
 use Rattle.mol_scope.specs.types.Kept.{view_value}
 use Rattle.mol_scope.specs.declared.types.static_type.StaticType.{StaticType}
 use Rattle.mol_scope.specs.declared.types.static_type.StaticType.TheVariants as static
-use Rattle.mol_values.specs.declared.itype.IType.{IType}
-use Rattle.mol_values.specs.declared.itype.IType.TheFolds.{fold-roll-IType, ind-IType, map-IType}
-use Rattle.mol_values.specs.declared.itype.IType.TheOpen.{IType-F}
-use Rattle.mol_values.specs.declared.itype.IType.TheViews.{roll-IType}
+use Rattle.mol_values_types.specs.declared.itype.IType.{IType}
+use Rattle.mol_values_types.specs.declared.itype.IType.TheFolds.{fold-roll-IType, ind-IType, map-IType}
+use Rattle.mol_values_types.specs.declared.itype.IType.TheOpen.{IType-F}
+use Rattle.mol_values_types.specs.declared.itype.IType.TheViews.{roll-IType}
 
 abbrev IsKnown : IType → Type 0
 IsKnown type = is_unread (seen type) ≡ false

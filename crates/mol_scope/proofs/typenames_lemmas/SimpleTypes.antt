@@ -9,8 +9,8 @@ use Rattle.mol_scope_classes.proofs.classes_lemmas.LivingClasses.{class_at-is}
 use Rattle.mol_scope_classes.specs.classes.ClassEntries.{class_as}
 use Rattle.mol_resolve_rules.specs.ProgramReaders.{class_at, class_header}
 use Rattle.mol_resolve_rules.specs.ProgramViews.{program_view}
-use Rattle.mol_table.specs.Program.{Program, name_at, package_at}
-use Rattle.mol_table.specs.Renumber.{is_living_class}
+use Rattle.mol_table_rules.specs.Program.{Program, name_at, package_at}
+use Rattle.mol_table_rules.specs.Renumber.{is_living_class}
 
 -- ---- a class by its key, or none
 

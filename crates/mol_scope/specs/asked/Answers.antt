@@ -6,7 +6,7 @@ use Rattle.mol_base.specs.declared.ident.Id.{Id}
 use Rattle.jav_names.specs.DottedNames.{Name, Names, dot, Dotted, cut}
 use Rattle.mol_spell_rules.specs.references.References.{Target, class_target, field_target, method_target, param_target, default_target, local_target, outside_target}
 use Rattle.mol_resolve_rules.specs.ReadTrees.{ClassPath, whole_path, front_path, no_path}
-use Rattle.mol_table.specs.Program.{same_id}
+use Rattle.mol_table_rules.specs.Program.{same_id}
 use Rattle.mol_scope.specs.declared.asked.answer.Answer.{Answer}
 use Rattle.mol_scope.specs.declared.asked.answer.Answer.TheVariants as answers
 use Rattle.mol_scope.specs.declared.asked.dotted_text.DottedText.{DottedText}

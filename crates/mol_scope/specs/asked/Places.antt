@@ -6,7 +6,7 @@ use Rattle.mol_resolve_rules.specs.Locals.{Locals, names_in_scope}
 use Rattle.mol_resolve_rules.specs.ProgramReaders.{class_reader, parameter_in}
 use Rattle.mol_resolve_rules.specs.ProgramViews.{program_view}
 use Rattle.mol_resolve_rules.specs.Readers.{Reader, param_names}
-use Rattle.mol_table.specs.Program.{Program}
+use Rattle.mol_table_rules.specs.Program.{Program}
 use Rattle.mol_scope.specs.declared.asked.place.NamePlace.{NamePlace}
 
 -- the program whose names are read

@@ -1,7 +1,7 @@
 //! What names read as.
 ghost use Rattle.std.specs.Prelude.{◌≡◌};
 ghost use Rattle.mol_scope.specs.asked.Answers.{answer_of, is_answer, target_of};
-ghost use Rattle.mol_table.specs.Program.{same_id};
+ghost use Rattle.mol_table_rules.specs.Program.{same_id};
 ghost use Rattle.mol_spell_rules.specs.references.References.{class_target, default_target, field_target, local_target, method_target, outside_target, param_target};
 
 use crate::asked::dotted_text::DottedText;

@@ -18,7 +18,7 @@ use crate::asked::place::NamePlace;
 use jav_scope::Found;
 use mol_base::{Id, Text};
 use mol_scope_members::{method_of, super_method};
-use mol_values::{Known, MethodKind};
+use mol_values_types::{Known, MethodKind};
 
 impl<'b> NamePlace<'_, 'b> {
     /// What the name of a method reads as, with so many arguments and without anything before it: a method of the class, or what is

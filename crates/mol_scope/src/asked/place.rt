@@ -8,7 +8,7 @@ use crate::variables::VariablePlace;
 use jav_scope::ImportIndex;
 use mol_base::Id;
 use mol_table::Table;
-use mol_values::{Known, Param};
+use mol_values_types::{Known, Param};
 
 /// A place in the file of a class of a table, where names are read. The class need not live.
 #[derive(Clone, Copy)]

@@ -4,8 +4,8 @@ ghost use Rattle.std.specs.Str.{bytes_eq};
 ghost use Rattle.jav_names.specs.index.Spelled.{spelled};
 ghost use Rattle.jav_names.specs.DottedNames.{Name};
 ghost use Rattle.jav_names.specs.LookUps.{class_named, class_or_imported, class_or_written, simple_type};
-ghost use Rattle.mol_table.specs.Program.{name_at};
-ghost use Rattle.mol_table.specs.Renumber.{is_living_class};
+ghost use Rattle.mol_table_rules.specs.Program.{name_at};
+ghost use Rattle.mol_table_rules.specs.Renumber.{is_living_class};
 ghost use Rattle.mol_scope.specs.typenames.Readings.{classes_of, header_of, reading_of};
 
 use crate::typenames::class_file::ClassFile;

@@ -9,7 +9,7 @@ ghost use Rattle.mol_base.specs.Order.{id_cmp};
 ghost use Rattle.mol_resolve_rules.specs.ProgramViews.{seen};
 
 use mol_base::{Id, OutOfMemory, Text};
-use mol_values::IType;
+use mol_values_types::IType;
 use std::alloc::Global;
 
 /// Whether two types are equal (JLS 4.3.4, 10.1): those outside by their texts.

@@ -10,7 +10,7 @@ use crate::types::equal_types::{same_class, same_types};
 use crate::types::items::item_at;
 use crate::types::static_type::StaticType;
 use mol_base::OutOfMemory;
-use mol_values::IType;
+use mol_values_types::IType;
 use std::alloc::Global;
 
 /// Whether two static types are equal. The time is linear in the lengths of the types.

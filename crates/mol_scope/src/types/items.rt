@@ -3,7 +3,7 @@ ghost use Rattle.std.specs.Prelude.{◌≡◌, option_copied, option_map};
 ghost use Rattle.mol_resolve_rules.specs.ProgramViews.{seen};
 ghost use Rattle.mol_scope.specs.types.Items.{item_at};
 
-use mol_values::IType;
+use mol_values_types::IType;
 
 /// The type of the items, so many dimensions into an array type; the type itself where that is 0.
 pub(crate) fn item_at(ty: &IType, dimensions: usize) -> Option<&IType>

@@ -6,7 +6,7 @@ ghost use Rattle.mol_resolve_rules.specs.ReadTrees.{arrays};
 ghost use Rattle.mol_scope.specs.types.Kept.{view_value};
 
 use mol_base::{Id, Text};
-use mol_values::IType;
+use mol_values_types::IType;
 
 /// The static type of a value. It points to types of the program, and has no memory of its own.
 #[derive(Clone, Copy)]

@@ -12,13 +12,13 @@ use Rattle.mol_scope_classes.specs.declared.class_members.owned.OwnedMember.{Own
 use Rattle.mol_scope_classes.proofs.classes_lemmas.KnownIds.{made-known, made-more}
 use Rattle.mol_scope_classes.specs.classes.Made.{made_of}
 use Rattle.mol_spell_rules.specs.UnitCells.{member_in}
-use Rattle.mol_table.proofs.Living.{id_tied}
-use Rattle.mol_table.specs.Identities.{AreKnown, IsAscending}
-use Rattle.mol_table.specs.Program.{Program, living_at, owner_at, same_id}
-use Rattle.mol_values.specs.Order.{id_eq}
-use Rattle.mol_values.proofs.Ties.{id_ties}
-use Rattle.mol_values.specs.declared.known.Known.{Known}
-use Rattle.mol_values.specs.declared.known.Known.TheVariants as knowns
+use Rattle.mol_table_rules.proofs.Living.{id_tied}
+use Rattle.mol_table_rules.specs.Identities.{AreKnown, IsAscending}
+use Rattle.mol_table_rules.specs.Program.{Program, living_at, owner_at, same_id}
+use Rattle.mol_values_types.specs.Order.{id_eq}
+use Rattle.mol_values_types.proofs.Ties.{id_ties}
+use Rattle.mol_values_types.specs.declared.known.Known.{Known}
+use Rattle.mol_values_types.specs.declared.known.Known.TheVariants as knowns
 use Rattle.std.specs.Cmp.{eq_by_cmp_equiv}
 
 -- ---- a member of a class

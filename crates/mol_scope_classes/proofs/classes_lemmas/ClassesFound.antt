@@ -12,7 +12,7 @@ use Rattle.jav_names.proofs.id_index_lemmas.Sought.{sought-is}
 use Rattle.jav_names.specs.id_index.Seeking.{is_sought}
 use Rattle.jav_names.specs.declared.id_index.entry.Entry.{Entry}
 use Rattle.mol_resolve_rules.specs.ProgramViews.{program_view}
-use Rattle.mol_table.specs.Program.{Program}
+use Rattle.mol_table_rules.specs.Program.{Program}
 use Rattle.mol_scope_classes.specs.classes.ClassEntries.{no_owner, class_entry, AreIndexed}
 
 abbrev id_of : Entry → Id

@@ -12,11 +12,11 @@ use Rattle.std.proofs.lemmas.List.Elements.{filter_map-append}
 use Rattle.std.proofs.lemmas.Map.Views.{list_any-from_Contains, Contains-from_any}
 use Rattle.mol_base.specs.Order.{id_cmp, id_cmp-total, id_cmp-IsAntisymmetric}
 use Rattle.mol_base.specs.declared.ident.Id.{Id}
-use Rattle.mol_table.proofs.Counts.{each_found}
-use Rattle.mol_table.proofs.Living.{id_tied}
-use Rattle.mol_table.specs.Identities.{IsAscending, AreKnown}
-use Rattle.mol_table.specs.Program.{Program}
-use Rattle.mol_values.specs.declared.known.Known.{Known}
+use Rattle.mol_table_rules.proofs.Counts.{each_found}
+use Rattle.mol_table_rules.proofs.Living.{id_tied}
+use Rattle.mol_table_rules.specs.Identities.{IsAscending, AreKnown}
+use Rattle.mol_table_rules.specs.Program.{Program}
+use Rattle.mol_values_types.specs.declared.known.Known.{Known}
 use Rattle.mol_scope_classes.specs.classes.Made.{made_of}
 
 both : (a b : Bool) → T a → T b → T (a && b)

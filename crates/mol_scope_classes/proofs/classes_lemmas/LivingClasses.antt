@@ -18,12 +18,12 @@ use Rattle.mol_resolve_rules.proofs.ProgramsViewed.{programs_viewed}
 use Rattle.mol_resolve_rules.proofs.Stands.{in_some, from_some}
 use Rattle.mol_resolve_rules.specs.ProgramReaders.{class_at}
 use Rattle.mol_resolve_rules.specs.ProgramViews.{living_class, program_view}
-use Rattle.mol_table.proofs.Counts.{each_found}
-use Rattle.mol_table.proofs.Living.{id_tied}
-use Rattle.mol_table.specs.Program.{Program, living_at}
-use Rattle.mol_table.specs.Renumber.{is_class, is_living_class}
-use Rattle.mol_values.specs.declared.known.Known.{Known}
-use Rattle.mol_values.specs.declared.known.Known.TheVariants as knowns
+use Rattle.mol_table_rules.proofs.Counts.{each_found}
+use Rattle.mol_table_rules.proofs.Living.{id_tied}
+use Rattle.mol_table_rules.specs.Program.{Program, living_at}
+use Rattle.mol_table_rules.specs.Renumber.{is_class, is_living_class}
+use Rattle.mol_values_types.specs.declared.known.Known.{Known}
+use Rattle.mol_values_types.specs.declared.known.Known.TheVariants as knowns
 use Rattle.mol_scope_classes.specs.classes.ClassEntries.{class_as}
 
 -- ---- entries

@@ -8,21 +8,21 @@ use Rattle.std.proofs.lemmas.List.Elements.{Contains-push_cases}
 use Rattle.jav_names.proofs.Lists.{Decides-fails}
 use Rattle.mol_base.specs.Order.{id_cmp}
 use Rattle.mol_base.specs.declared.ident.Id.{Id}
-use Rattle.mol_table.proofs.Counts.{none-some, some-same}
-use Rattle.mol_table.proofs.Living.{id_tied, same_id-own}
-use Rattle.mol_table.specs.Ancestors.{living_parent, is_on_way}
-use Rattle.mol_table.specs.Heights.{upward}
-use Rattle.mol_table.specs.Identities.{AreKnown}
-use Rattle.mol_table.specs.Program.{Program, value_at, parent_in, parent_at}
-use Rattle.mol_table.specs.Renumber.{is_class}
-use Rattle.mol_table.specs.Rules.{IsProgram}
-use Rattle.mol_values.proofs.Ties.{id_ties}
-use Rattle.mol_values.specs.Order.{id_eq}
-use Rattle.mol_values.specs.Slots.{has_slot}
-use Rattle.mol_values.specs.declared.cell.Slot.TheVariants as slots
-use Rattle.mol_values.specs.declared.known.Known.{Known}
-use Rattle.mol_values.specs.declared.known.Known.TheVariants as knowns
-use Rattle.mol_values.specs.declared.value.Value.{Value}
+use Rattle.mol_table_rules.proofs.Counts.{none-some, some-same}
+use Rattle.mol_table_rules.proofs.Living.{id_tied, same_id-own}
+use Rattle.mol_table_rules.specs.Ancestors.{living_parent, is_on_way}
+use Rattle.mol_table_rules.specs.Heights.{upward}
+use Rattle.mol_table_rules.specs.Identities.{AreKnown}
+use Rattle.mol_table_rules.specs.Program.{Program, value_at, parent_in, parent_at}
+use Rattle.mol_table_rules.specs.Renumber.{is_class}
+use Rattle.mol_table_rules.specs.Rules.{IsProgram}
+use Rattle.mol_values_types.proofs.Ties.{id_ties}
+use Rattle.mol_values_types.specs.Order.{id_eq}
+use Rattle.mol_values_types.specs.Slots.{has_slot}
+use Rattle.mol_values_types.specs.declared.cell.Slot.TheVariants as slots
+use Rattle.mol_values_types.specs.declared.known.Known.{Known}
+use Rattle.mol_values_types.specs.declared.known.Known.TheVariants as knowns
+use Rattle.mol_values_types.specs.declared.value.Value.{Value}
 use Rattle.mol_scope_classes.specs.hierarchy.Forest.{IsUp}
 use Rattle.mol_scope_classes.specs.hierarchy.Placed.{number_in, ArePlaced, IsHierarchy, Keeps}
 use Rattle.mol_scope_classes.specs.hierarchy.Reaching.{Reaches}

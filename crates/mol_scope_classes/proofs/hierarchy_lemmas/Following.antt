@@ -1,9 +1,9 @@
 -- Following superclasses.
 use Rattle.std.proofs.Common.{◌≡◌, ◌⊎◌, inl, inr, ℕ, zero, suc, ◌+◌, Option, Some, None, refl, sym, ◌∙◌, ap, subst, arith}
 use Rattle.mol_base.specs.declared.ident.Id.{Id}
-use Rattle.mol_table.specs.Heights.{upward, climb}
-use Rattle.mol_table.specs.Program.{Program}
-use Rattle.mol_table.proofs.Counts.{none-some, some-same}
+use Rattle.mol_table_rules.specs.Heights.{upward, climb}
+use Rattle.mol_table_rules.specs.Program.{Program}
+use Rattle.mol_table_rules.proofs.Counts.{none-some, some-same}
 use Rattle.mol_scope_classes.specs.hierarchy.Reaching.{Reaches}
 
 module _ (program : Program) where

@@ -7,12 +7,12 @@ use Rattle.std.proofs.lemmas.Map.Views.{list_any-from_Contains}
 use Rattle.jav_names.proofs.Lists.{stands_first, stands_where, stands_nowhere}
 use Rattle.mol_base.specs.Order.{id_cmp-total}
 use Rattle.mol_base.specs.declared.ident.Id.{Id}
-use Rattle.mol_table.proofs.Counts.{some-same}
-use Rattle.mol_table.proofs.Living.{id_tied}
-use Rattle.mol_table.specs.Heights.{upward}
-use Rattle.mol_table.specs.Program.{Program, same_id}
+use Rattle.mol_table_rules.proofs.Counts.{some-same}
+use Rattle.mol_table_rules.proofs.Living.{id_tied}
+use Rattle.mol_table_rules.specs.Heights.{upward}
+use Rattle.mol_table_rules.specs.Program.{Program, same_id}
 use Rattle.mol_scope_classes.specs.hierarchy.Placed.{number_in, ArePlaced, AreNew, IsLine, AddsBelow, Keeps}
-use Rattle.mol_table.specs.Tops.{Leads}
+use Rattle.mol_table_rules.specs.Heights.{Leads}
 use Rattle.mol_scope_classes.specs.declared.hierarchy.place.Place.{Place}
 use Rattle.mol_scope_classes.proofs.hierarchy_lemmas.PlacesAdded.{new-number, kept, below-added}
 use Rattle.mol_scope_classes.proofs.hierarchy_lemmas.Tops.{leads-front}

@@ -12,14 +12,14 @@ use Rattle.mol_base.specs.Order.{id_cmp-total}
 use Rattle.mol_base.specs.declared.ident.Id.{Id}
 use Rattle.mol_base.specs.declared.memory.OutOfMemory.{OutOfMemory}
 use Rattle.mol_resolve_rules.proofs.Stands.{in_place}
-use Rattle.mol_table.proofs.Living.{id_tied, same_id-own}
-use Rattle.mol_table.specs.Heights.{upward}
-use Rattle.mol_table.specs.Program.{Program, same_id}
-use Rattle.mol_values.proofs.Ties.{id_ties, any_tied}
-use Rattle.mol_values.specs.Order.{id_eq}
+use Rattle.mol_table_rules.proofs.Living.{id_tied, same_id-own}
+use Rattle.mol_table_rules.specs.Heights.{upward}
+use Rattle.mol_table_rules.specs.Program.{Program, same_id}
+use Rattle.mol_values_types.proofs.Ties.{id_ties, any_tied}
+use Rattle.mol_values_types.specs.Order.{id_eq}
 use Rattle.mol_scope_classes.specs.hierarchy.Forest.{top_place}
 use Rattle.mol_scope_classes.specs.hierarchy.Placed.{number_in, ArePlaced, AreNew, IsLine, Adds, Keeps}
-use Rattle.mol_table.specs.Tops.{Leads}
+use Rattle.mol_table_rules.specs.Heights.{Leads}
 use Rattle.mol_scope_classes.specs.hierarchy.Reaching.{AreTop}
 use Rattle.mol_scope_classes.specs.declared.hierarchy.line.Line.{Line}
 use Rattle.mol_scope_classes.specs.declared.hierarchy.place.Place.{Place}

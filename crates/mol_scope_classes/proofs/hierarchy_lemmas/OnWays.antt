@@ -8,16 +8,16 @@ use Rattle.std.proofs.lemmas.List.Folds.{list_any-append}
 use Rattle.std.proofs.lemmas.Map.Views.{Contains-from_any}
 use Rattle.jav_names.proofs.Ways.{fewer, filter-length}
 use Rattle.mol_base.specs.declared.ident.Id.{Id}
-use Rattle.mol_table.proofs.Counts.{none-some, some-same}
-use Rattle.mol_table.proofs.Living.{id_tied, same_id-own}
-use Rattle.mol_table.specs.Ancestors.{living_parent, unmet, walk, is_on_way}
-use Rattle.mol_table.specs.Heights.{upward}
-use Rattle.mol_table.specs.Program.{Program, same_id, value_at, is_yes, living_at, parent_at}
-use Rattle.mol_table.specs.Rules.{IsProgram}
-use Rattle.mol_values.specs.Slots.{has_slot}
-use Rattle.mol_values.specs.declared.cell.Slot.TheVariants as slots
-use Rattle.mol_values.specs.declared.known.Known.{Known}
-use Rattle.mol_values.specs.declared.value.Value.{Value}
+use Rattle.mol_table_rules.proofs.Counts.{none-some, some-same}
+use Rattle.mol_table_rules.proofs.Living.{id_tied, same_id-own}
+use Rattle.mol_table_rules.specs.Ancestors.{living_parent, unmet, walk, is_on_way}
+use Rattle.mol_table_rules.specs.Heights.{upward}
+use Rattle.mol_table_rules.specs.Program.{Program, same_id, value_at, is_yes, living_at, parent_at}
+use Rattle.mol_table_rules.specs.Rules.{IsProgram}
+use Rattle.mol_values_types.specs.Slots.{has_slot}
+use Rattle.mol_values_types.specs.declared.cell.Slot.TheVariants as slots
+use Rattle.mol_values_types.specs.declared.known.Known.{Known}
+use Rattle.mol_values_types.specs.declared.value.Value.{Value}
 use Rattle.mol_scope_classes.specs.hierarchy.Reaching.{Reaches}
 use Rattle.mol_scope_classes.proofs.hierarchy_lemmas.Following.{itself, one-step, further, stays}
 

@@ -1,9 +1,9 @@
 -- Going up along a path.
 use Rattle.std.proofs.Common.{◌≡◌, ℕ, zero, suc, ◌+◌, List, Some, refl, sym, ◌∙◌, ap, subst, arith}
 use Rattle.mol_base.specs.declared.ident.Id.{Id}
-use Rattle.mol_table.proofs.Counts.{some-same}
-use Rattle.mol_table.specs.Heights.{climb}
-use Rattle.mol_table.specs.Program.{Program}
+use Rattle.mol_table_rules.proofs.Counts.{some-same}
+use Rattle.mol_table_rules.specs.Heights.{climb}
+use Rattle.mol_table_rules.specs.Program.{Program}
 use Rattle.mol_scope_classes.specs.hierarchy.Paths.{ArePaths, place_on, position_in}
 use Rattle.mol_scope_classes.specs.declared.hierarchy.position.Position.{Position}
 

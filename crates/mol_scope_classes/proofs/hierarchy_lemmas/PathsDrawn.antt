@@ -4,9 +4,9 @@ use Rattle.std.specs.FinMap.{get-empty}
 use Rattle.std.specs.Option.{option_map_or}
 use Rattle.mol_base.specs.Order.{id_cmp}
 use Rattle.mol_base.specs.declared.ident.Id.{Id}
-use Rattle.mol_table.proofs.Living.{id_apart, id_tied, same_id-own}
-use Rattle.mol_table.specs.Heights.{upward}
-use Rattle.mol_table.specs.Program.{Program, same_id}
+use Rattle.mol_table_rules.proofs.Living.{id_apart, id_tied, same_id-own}
+use Rattle.mol_table_rules.specs.Heights.{upward}
+use Rattle.mol_table_rules.specs.Program.{Program, same_id}
 use Rattle.mol_scope_classes.specs.hierarchy.Paths.{AreDrawn, ArePaths, CanFollow, Extends, Follows, IsNext, last_in, place_on, position_in}
 use Rattle.mol_scope_classes.specs.declared.hierarchy.position.Position.{Position}
 

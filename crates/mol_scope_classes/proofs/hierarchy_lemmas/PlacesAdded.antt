@@ -8,10 +8,10 @@ use Rattle.std.proofs.lemmas.Map.Views.{Contains-from_any, list_any-from_Contain
 use Rattle.jav_names.proofs.Lists.{stands_where, stands_nowhere}
 use Rattle.mol_base.specs.Order.{id_cmp-total}
 use Rattle.mol_base.specs.declared.ident.Id.{Id}
-use Rattle.mol_table.proofs.Counts.{none-some, some-same}
-use Rattle.mol_table.proofs.Living.{id_tied}
-use Rattle.mol_table.specs.Heights.{upward}
-use Rattle.mol_table.specs.Program.{Program, same_id}
+use Rattle.mol_table_rules.proofs.Counts.{none-some, some-same}
+use Rattle.mol_table_rules.proofs.Living.{id_tied}
+use Rattle.mol_table_rules.specs.Heights.{upward}
+use Rattle.mol_table_rules.specs.Program.{Program, same_id}
 use Rattle.mol_scope_classes.specs.hierarchy.Forest.{IsUp, here, up, IsPlace, ArePlaces, IsBelow, top_place}
 use Rattle.mol_scope_classes.specs.hierarchy.Placed.{number_in, HasAbove, ArePlaced, AreNew, Adds, Keeps}
 use Rattle.mol_scope_classes.specs.hierarchy.Reaching.{Reaches, AreTop}

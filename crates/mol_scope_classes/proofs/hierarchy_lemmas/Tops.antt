@@ -2,10 +2,10 @@
 use Rattle.std.proofs.Common.{◌≡◌, ◌⊎◌, inl, inr, List, [], ◌∷◌, ◌++◌, Option, Some, None, Contains, refl, sym, ◌∙◌, ap, subst}
 use Rattle.jav_names.proofs.Lists.{stands_first, stands_later, stands_where, stands_nowhere}
 use Rattle.mol_base.specs.declared.ident.Id.{Id}
-use Rattle.mol_table.proofs.Counts.{none-some, some-same}
-use Rattle.mol_table.specs.Heights.{upward}
-use Rattle.mol_table.specs.Program.{Program}
-use Rattle.mol_table.specs.Tops.{Leads}
+use Rattle.mol_table_rules.proofs.Counts.{none-some, some-same}
+use Rattle.mol_table_rules.specs.Heights.{upward}
+use Rattle.mol_table_rules.specs.Program.{Program}
+use Rattle.mol_table_rules.specs.Heights.{Leads}
 use Rattle.mol_scope_classes.specs.hierarchy.Reaching.{Reaches, AreTop}
 use Rattle.mol_scope_classes.proofs.hierarchy_lemmas.Following.{itself, one-step, further}
 

@@ -2,7 +2,7 @@
 use Rattle.std.proofs.Common.{◌≡◌, ◌⊎◌, inl, inr, ℕ, zero, suc, ◌<◌, ◌≤◌, List, [], ◌∷◌, ◌++◌, length, get_or, Some, slice_get, refl, sym, ◌∙◌, ap, subst, arith}
 use Rattle.std.proofs.lemmas.Bool.{cases_lt}
 use Rattle.std.proofs.lemmas.Option.{slice_get-get_or}
-use Rattle.mol_table.proofs.Counts.{some-same}
+use Rattle.mol_table_rules.proofs.Counts.{some-same}
 use Rattle.mol_scope_classes.specs.hierarchy.Forest.{IsUp, here, up, IsPlace, ArePlaces}
 use Rattle.mol_scope_classes.specs.declared.hierarchy.place.Place.{Place}
 

@@ -6,10 +6,10 @@ use Rattle.mol_base.specs.declared.ident.Id.{Id}
 use Rattle.mol_scope_classes.specs.declared.class_members.class_member.ClassMember.{ClassMember}
 use Rattle.mol_scope_classes.specs.declared.class_members.owned.OwnedMember.{OwnedMember}
 use Rattle.mol_spell_rules.specs.UnitCells.{members_of}
-use Rattle.mol_table.specs.Program.{Program, living_at, owner_at, same_id}
-use Rattle.mol_values.specs.Order.{id_eq}
-use Rattle.mol_values.specs.declared.known.Known.{Known}
-use Rattle.mol_values.specs.declared.known.Known.TheVariants as knowns
+use Rattle.mol_table_rules.specs.Program.{Program, living_at, owner_at, same_id}
+use Rattle.mol_values_types.specs.Order.{id_eq}
+use Rattle.mol_values_types.specs.declared.known.Known.{Known}
+use Rattle.mol_values_types.specs.declared.known.Known.TheVariants as knowns
 
 abbrev pub member_entry : ClassMember → Id × Known
 member_entry member = (member.id, member.known)

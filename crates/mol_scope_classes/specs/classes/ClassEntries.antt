@@ -6,7 +6,7 @@ use Rattle.mol_base.specs.declared.ident.Id.{Id}
 use Rattle.jav_names.specs.id_index.Seeking.{FindsSame}
 use Rattle.jav_names.specs.declared.id_index.entry.Entry.{Entry}
 use Rattle.mol_resolve_rules.specs.ProgramViews.{program_view}
-use Rattle.mol_table.specs.Program.{Program, package_at, name_at}
+use Rattle.mol_table_rules.specs.Program.{Program, package_at, name_at}
 
 -- a class has no owner
 abbrev pub no_owner : Id

@@ -4,8 +4,8 @@ use Rattle.std.specs.FinMap.{get, from_entries}
 use Rattle.std.specs.Option.{option_map_or}
 use Rattle.mol_base.specs.Order.{id_cmp}
 use Rattle.mol_base.specs.declared.ident.Id.{Id}
-use Rattle.mol_table.specs.Heights.{upward}
-use Rattle.mol_table.specs.Program.{Program, same_id}
+use Rattle.mol_table_rules.specs.Heights.{upward}
+use Rattle.mol_table_rules.specs.Program.{Program, same_id}
 use Rattle.mol_scope_classes.specs.declared.hierarchy.position.Position.{Position}
 
 -- the first class of a path, or one that stands so many places further

@@ -4,11 +4,11 @@ use Rattle.std.specs.FinMap.{get, from_entries}
 use Rattle.std.specs.List.{list_any}
 use Rattle.mol_base.specs.Order.{id_cmp}
 use Rattle.mol_base.specs.declared.ident.Id.{Id}
-use Rattle.mol_table.specs.Heights.{upward}
-use Rattle.mol_table.specs.Program.{Program, same_id}
-use Rattle.mol_table.specs.Rules.{IsProgram}
+use Rattle.mol_table_rules.specs.Heights.{upward}
+use Rattle.mol_table_rules.specs.Program.{Program, same_id}
+use Rattle.mol_table_rules.specs.Rules.{IsProgram}
 use Rattle.mol_scope_classes.specs.hierarchy.Forest.{IsUp, ArePlaces, IsBelow}
-use Rattle.mol_table.specs.Tops.{Leads}
+use Rattle.mol_table_rules.specs.Heights.{Leads}
 use Rattle.mol_scope_classes.specs.hierarchy.Reaching.{Reaches}
 use Rattle.mol_scope_classes.specs.declared.hierarchy.place.Place.{Place}
 

@@ -1,8 +1,8 @@
 -- Where following superclasses leads.
 use Rattle.std.specs.Prelude.{◌≡◌, ℕ, List, Some, Contains}
 use Rattle.mol_base.specs.declared.ident.Id.{Id}
-use Rattle.mol_table.specs.Heights.{upward, climb}
-use Rattle.mol_table.specs.Program.{Program}
+use Rattle.mol_table_rules.specs.Heights.{upward, climb}
+use Rattle.mol_table_rules.specs.Program.{Program}
 
 -- Following superclasses that live leads from the first class to the second.
 pub record Reaches (program : Program) (class above : Id) : Type 0 where

@@ -4,7 +4,7 @@ ghost use Rattle.mol_resolve_rules.specs.ProgramViews.{seen, superclass_at};
 
 use mol_base::Id;
 use mol_table::Table;
-use mol_values::{Cell, IType, Slot, Value};
+use mol_values_types::{Cell, IType, Slot, Value};
 
 /// The type that a class extends, if it names one, also of a class that does not live. It takes no memory.
 pub fn parent_of<'a>(table: &'a Table, class: &Id) -> Option<&'a IType>

@@ -1,13 +1,12 @@
 //! What lives, by single cells.
 ghost use Rattle.std.specs.Prelude.{◌≡◌};
-ghost use Rattle.mol_table.specs.Counting.{living_of};
-ghost use Rattle.mol_table.specs.Program.{living_at};
-ghost use Rattle.mol_table.specs.Renumber.{is_living_class};
-ghost use Rattle.mol_scope_classes.specs.cells.Living.{is_living_field};
+ghost use Rattle.mol_table_rules.specs.Counting.{living_of};
+ghost use Rattle.mol_table_rules.specs.Program.{living_at};
+ghost use Rattle.mol_table_rules.specs.Renumber.{is_living_class};
 
 use mol_base::Id;
 use mol_table::Table;
-use mol_values::{Cell, Known, Slot, Value};
+use mol_values_types::{Cell, Known, Slot, Value};
 
 /// Whether the cell `live` of an identity is there and is yes. It takes no memory.
 pub fn is_live(table: &Table, id: &Id) -> bool
@@ -29,16 +28,6 @@ pub fn is_living_class(table: &Table, id: &Id) -> bool
 {
     match table.known(*id) {
         Some(Known::Class) => is_live(table, id),
-        _ => false,
-    }
-}
-
-/// Whether this is a field that lives. It takes no memory.
-pub fn is_living_field(table: &Table, id: &Id) -> bool
-    ensures { result ≡ is_living_field table.now id.now }
-{
-    match table.known(*id) {
-        Some(Known::Field) => is_live(table, id),
         _ => false,
     }
 }

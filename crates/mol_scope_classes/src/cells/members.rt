@@ -6,12 +6,12 @@ ghost use Rattle.std.specs.Str.{bytes_eq};
 ghost use Rattle.jav_names.specs.LookUps.{is_constructor};
 ghost use Rattle.mol_base.specs.Modifiers.{has};
 ghost use Rattle.mol_resolve_rules.specs.ProgramViews.{kind_in, words_in};
-ghost use Rattle.mol_table.specs.Program.{owner_at, params_at, value_at};
-ghost use Rattle.mol_values.specs.declared.cell.Slot.TheVariants as slots;
+ghost use Rattle.mol_table_rules.specs.Program.{owner_at, params_at, value_at};
+ghost use Rattle.mol_values_types.specs.declared.cell.Slot.TheVariants as slots;
 
 use mol_base::{Id, Text};
 use mol_table::Table;
-use mol_values::{Cell, Known, MethodKind, Param, Slot, Value};
+use mol_values_types::{Cell, Known, MethodKind, Param, Slot, Value};
 
 /// The class in which a field or a declaration stands, which need not live. It takes no memory.
 pub fn owner_of(table: &Table, id: &Id) -> Option<Id>

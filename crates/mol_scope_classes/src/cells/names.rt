@@ -1,10 +1,10 @@
 //! Names and packages.
 ghost use Rattle.std.specs.Prelude.{◌≡◌};
-ghost use Rattle.mol_table.specs.Program.{name_at, package_at};
+ghost use Rattle.mol_table_rules.specs.Program.{name_at, package_at};
 
 use mol_base::Id;
 use mol_table::Table;
-use mol_values::{Cell, Slot, Value};
+use mol_values_types::{Cell, Slot, Value};
 
 /// The name of a class, a field or a method; empty where nothing has one. It takes no memory.
 pub fn name_of<'a>(table: &'a Table, id: &Id) -> &'a str

@@ -21,11 +21,11 @@ pub struct ClassMembers<'a> {
 impl<'a> Model for ClassMembers<'a> {
     ghost use Rattle.mol_base.specs.contracts.ident.Id as id;
     ghost use Rattle.mol_scope_classes.specs.class_members.Members.{AreMembers};
-    ghost use Rattle.mol_table.specs.Maps.{program_code};
-    ghost use Rattle.mol_table.specs.Program.{Program};
-    ghost use Rattle.mol_values.specs.contracts.cell.Cell as cell;
-    ghost use Rattle.mol_values.specs.contracts.known.Known as what;
-    ghost use Rattle.mol_values.specs.contracts.value.Value as value;
+    ghost use Rattle.mol_table_rules.specs.Program.{program_code};
+    ghost use Rattle.mol_table_rules.specs.Program.{Program};
+    ghost use Rattle.mol_values_types.specs.contracts.cell.Cell as cell;
+    ghost use Rattle.mol_values_types.specs.contracts.known.Known as what;
+    ghost use Rattle.mol_values_types.specs.contracts.value.Value as value;
 
     ghost Value = { Program };
 

@@ -4,14 +4,14 @@ ghost use Rattle.std.specs.Map.{lookup};
 ghost use Rattle.std.specs.Option.{option_to_list};
 ghost use Rattle.mol_base.specs.declared.ident.Id.{Id as Identity};
 ghost use Rattle.mol_scope_classes.specs.class_members.Members.{AreMembers, in_class, listed_at};
-ghost use Rattle.mol_values.specs.Order.{id_eq};
+ghost use Rattle.mol_values_types.specs.Order.{id_eq};
 
 use crate::class_members::class_member::ClassMember;
 use crate::class_members::owned::{OwnedMember, owned_member};
 use indexmap::IndexMap;
 use mol_base::{Id, List, OutOfMemory};
 use mol_table::Table;
-use mol_values::Known;
+use mol_values_types::Known;
 use std::alloc::Global;
 
 /// The members that live, at their classes.

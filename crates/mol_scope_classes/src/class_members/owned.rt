@@ -6,7 +6,7 @@ ghost use Rattle.mol_scope_classes.specs.class_members.Members.{living_member, o
 use crate::cells::{is_live, owner_of};
 use mol_base::Id;
 use mol_table::Table;
-use mol_values::Known;
+use mol_values_types::Known;
 
 /// A field or a declaration, by its class, its identity and what it is known as.
 #[derive(Clone, Copy)]

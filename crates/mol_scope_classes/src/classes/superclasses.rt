@@ -10,7 +10,7 @@ use crate::cells::{is_living_class, parent_of};
 use jav_scope::Found;
 use mol_base::Id;
 use mol_table::Table;
-use mol_values::IType;
+use mol_values_types::IType;
 
 /// What a class extends, whether or not it lives: a class that lives, something outside, or nothing that can be looked into (JLS 8.1.4);
 /// nothing where there is no such class. It takes no memory.

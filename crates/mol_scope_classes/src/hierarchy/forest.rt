@@ -2,7 +2,7 @@
 ghost use Rattle.std.specs.Prelude.{◌≡◌, ◌+◌, ◌<◌, ◌≤◌, ◌∷◌, [], IsTrue, ◌↔◌, IsSome, IfOk, OnOk, length, take, drop};
 ghost use Rattle.std.specs.FinMap as map;
 ghost use Rattle.indexmap.specs.IndexSet.{index_set_len};
-ghost use Rattle.mol_table.specs.Rules.{IsProgram};
+ghost use Rattle.mol_table_rules.specs.Rules.{IsProgram};
 ghost use Rattle.mol_scope_classes.specs.hierarchy.Forest.{IsUp, ArePlaces, IsBelow, LeadsOn, top_place};
 ghost use Rattle.mol_scope_classes.specs.hierarchy.Placed.{number_in, ArePlaced, IsLine, AreNew, Adds, AddsBelow, Keeps};
 

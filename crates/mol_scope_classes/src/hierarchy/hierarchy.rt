@@ -1,7 +1,7 @@
 //! Ancestors of classes.
 ghost use Rattle.std.specs.Prelude.{◌≡◌, IfOk, OnOk};
 ghost use Rattle.mol_scope_classes.specs.hierarchy.Paths.{AreDrawn, ArePaths};
-ghost use Rattle.mol_table.specs.Ancestors.{is_on_way};
+ghost use Rattle.mol_table_rules.specs.Ancestors.{is_on_way};
 
 use crate::hierarchy::forest::Forest;
 use crate::hierarchy::parents::living_parent;
@@ -22,11 +22,11 @@ pub struct Hierarchy<'a> {
 impl<'a> Model for Hierarchy<'a> {
     ghost use Rattle.mol_base.specs.contracts.ident.Id as id;
     ghost use Rattle.mol_scope_classes.specs.hierarchy.Placed.{IsHierarchy};
-    ghost use Rattle.mol_table.specs.Maps.{program_code};
-    ghost use Rattle.mol_table.specs.Program.{Program};
-    ghost use Rattle.mol_values.specs.contracts.cell.Cell as cell;
-    ghost use Rattle.mol_values.specs.contracts.known.Known as what;
-    ghost use Rattle.mol_values.specs.contracts.value.Value as value;
+    ghost use Rattle.mol_table_rules.specs.Program.{program_code};
+    ghost use Rattle.mol_table_rules.specs.Program.{Program};
+    ghost use Rattle.mol_values_types.specs.contracts.cell.Cell as cell;
+    ghost use Rattle.mol_values_types.specs.contracts.known.Known as what;
+    ghost use Rattle.mol_values_types.specs.contracts.value.Value as value;
 
     ghost Value = { Program };
 

@@ -1,15 +1,15 @@
 //! Superclasses.
 ghost use Rattle.std.specs.Prelude.{◌≡◌, Some};
 ghost use Rattle.std.specs.FinMap as map;
-ghost use Rattle.mol_table.specs.Heights.{upward};
-ghost use Rattle.mol_table.specs.Program.{class_of_type, parent_at};
-ghost use Rattle.mol_table.specs.Renumber.{is_class};
-ghost use Rattle.mol_table.specs.Rules.{IsProgram};
+ghost use Rattle.mol_table_rules.specs.Heights.{upward};
+ghost use Rattle.mol_table_rules.specs.Program.{class_of_type, parent_at};
+ghost use Rattle.mol_table_rules.specs.Renumber.{is_class};
+ghost use Rattle.mol_table_rules.specs.Rules.{IsProgram};
 
 use crate::cells::is_live;
 use mol_base::Id;
 use mol_table::Table;
-use mol_values::{Cell, IType, Known, Slot, Value};
+use mol_values_types::{Cell, IType, Known, Slot, Value};
 
 /// The superclass of a class, where that is a class of the program and lives (JLS 8.1.4). It takes no memory, and the time is that of some
 /// look-ups.

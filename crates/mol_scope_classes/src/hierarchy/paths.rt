@@ -1,8 +1,8 @@
 //! Paths that lead down through the classes of a table.
 ghost use Rattle.std.specs.Prelude.{◌≡◌, suc, IfSome, IsTrue, OnOk, Some};
 ghost use Rattle.mol_scope_classes.specs.hierarchy.Paths.{AreDrawn, CanFollow, Follows, IsNext, last_in, place_on, position_in};
-ghost use Rattle.mol_table.specs.Heights.{upward};
-ghost use Rattle.mol_table.specs.Program.{Program};
+ghost use Rattle.mol_table_rules.specs.Heights.{upward};
+ghost use Rattle.mol_table_rules.specs.Program.{Program};
 
 use crate::hierarchy::position::Position;
 use indexmap::IndexMap;

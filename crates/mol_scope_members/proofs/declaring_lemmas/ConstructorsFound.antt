@@ -12,7 +12,7 @@ use Rattle.mol_base.specs.declared.ident.Id.{Id}
 use Rattle.jav_names.proofs.id_index_lemmas.Sought.{sought-is}
 use Rattle.jav_names.specs.id_index.Seeking.{is_sought}
 use Rattle.mol_resolve_rules.specs.ProgramViews.{program_view}
-use Rattle.mol_table.specs.Program.{Program}
+use Rattle.mol_table_rules.specs.Program.{Program}
 use Rattle.mol_scope_members.specs.declaring.Indexed.{AreIndexed, constructor_id, found_in}
 use Rattle.mol_scope_members.specs.declaring.MemberEntries.{constructor_entry, owner_entry, listed_constructor, listed_owner}
 use Rattle.mol_scope_members.specs.declared.declaring.members.Members.{Members}

@@ -13,10 +13,10 @@ use Rattle.jav_names.proofs.id_index_lemmas.Sought.{sought-is}
 use Rattle.jav_names.specs.id_index.Seeking.{is_sought}
 use Rattle.mol_resolve_rules.proofs.ProgramsViewed.{programs_viewed}
 use Rattle.mol_resolve_rules.specs.StaticTypes.{class_of_only_declaration}
-use Rattle.mol_table.specs.Life.{is_decl_of}
-use Rattle.mol_table.specs.Program.{Program, same_id, owner_at}
-use Rattle.mol_values.specs.declared.known.Known.{Known}
-use Rattle.mol_values.specs.declared.known.Known.TheVariants as knowns
+use Rattle.mol_table_rules.specs.Life.{is_decl_of}
+use Rattle.mol_table_rules.specs.Program.{Program, same_id, owner_at}
+use Rattle.mol_values_types.specs.declared.known.Known.{Known}
+use Rattle.mol_values_types.specs.declared.known.Known.TheVariants as knowns
 use Rattle.mol_scope_members.specs.declaring.Indexed.{AreIndexed, found_in}
 use Rattle.mol_scope_members.specs.declaring.MemberEntries.{declaring_entry}
 use Rattle.mol_scope_members.specs.declared.declaring.members.Members.{Members}

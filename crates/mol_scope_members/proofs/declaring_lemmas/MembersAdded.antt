@@ -11,9 +11,9 @@ use Rattle.mol_scope_classes.proofs.classes_lemmas.KnownIds.{made-known, made-mo
 use Rattle.mol_scope_classes.specs.classes.Made.{made_of}
 use Rattle.jav_names.specs.declared.id_index.entry.Entry.{Entry}
 use Rattle.mol_resolve_rules.specs.ProgramViews.{declaration_of, field_of, living_field, living_declaration, program_view}
-use Rattle.mol_table.specs.Identities.{AreKnown, IsAscending}
-use Rattle.mol_table.specs.Program.{Program, living_at, owner_at}
-use Rattle.mol_values.specs.declared.known.Known.TheVariants as knowns
+use Rattle.mol_table_rules.specs.Identities.{AreKnown, IsAscending}
+use Rattle.mol_table_rules.specs.Program.{Program, living_at, owner_at}
+use Rattle.mol_values_types.specs.declared.known.Known.TheVariants as knowns
 use Rattle.mol_scope_members.specs.declaring.Collecting.{Adds, AddsKnown, AreCollected, Collects}
 use Rattle.mol_scope_members.specs.declaring.MemberEntries.{declaring_entry, field_entry, listed_constructor, listed_method, listed_owner}
 use Rattle.mol_scope_members.specs.declaring.Owners.{field_row, method_row, row_of}

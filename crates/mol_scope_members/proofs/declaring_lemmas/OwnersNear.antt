@@ -14,9 +14,9 @@ use Rattle.mol_scope_classes.proofs.hierarchy_lemmas.PathsClimbed.{climbed-at, c
 use Rattle.mol_scope_classes.specs.hierarchy.Paths.{ArePaths, place_on, position_in}
 use Rattle.mol_scope_classes.specs.declared.hierarchy.position.Position.{Position}
 use Rattle.mol_resolve_rules.proofs.Stands.{from_map}
-use Rattle.mol_table.proofs.Counts.{some-same}
-use Rattle.mol_table.specs.Heights.{climb}
-use Rattle.mol_table.specs.Program.{Program}
+use Rattle.mol_table_rules.proofs.Counts.{some-same}
+use Rattle.mol_table_rules.specs.Heights.{climb}
+use Rattle.mol_table_rules.specs.Program.{Program}
 use Rattle.mol_scope_members.specs.declaring.Owners.{ArePlaced, IsNearest, Row, path_cmp, path_of, place_cmp, placed_row}
 use Rattle.mol_scope_members.specs.declared.declaring.owner.PlacedOwner.{PlacedOwner}
 use Rattle.mol_scope_members.proofs.declaring_lemmas.OwnersPlaced.{path-same, path_cmp-total, place_cmp-total}

@@ -10,10 +10,10 @@ use Rattle.mol_scope_members.specs.declared.declaring.nearest.Nearest.{Nearest}
 use Rattle.mol_scope_classes.proofs.hierarchy_lemmas.Following.{nowhere}
 use Rattle.mol_resolve_rules.proofs.ProgramsViewed.{programs_viewed}
 use Rattle.mol_resolve_rules.specs.ProgramViews.{program_view}
-use Rattle.mol_table.proofs.Counts.{some-same}
-use Rattle.mol_table.specs.Heights.{upward, climb as upwards}
-use Rattle.mol_table.specs.Program.{Program}
-use Rattle.mol_table.specs.Rules.{IsProgram}
+use Rattle.mol_table_rules.proofs.Counts.{some-same}
+use Rattle.mol_table_rules.specs.Heights.{upward, climb as upwards}
+use Rattle.mol_table_rules.specs.Program.{Program}
+use Rattle.mol_table_rules.specs.Rules.{IsProgram}
 use Rattle.mol_scope_members.proofs.inherited_lemmas.Reached.{extends}
 
 module _ (program : Program) (rules : IsProgram program) where

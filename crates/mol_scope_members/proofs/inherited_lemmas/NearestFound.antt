@@ -12,7 +12,7 @@ use Rattle.mol_base.specs.declared.ident.Id.{Id}
 use Rattle.mol_scope_members.specs.declaring.Indexed.{declared_field, declared_method}
 use Rattle.mol_resolve_rules.proofs.ProgramsViewed.{programs_viewed}
 use Rattle.mol_resolve_rules.specs.ProgramViews.{program_view}
-use Rattle.mol_table.specs.Program.{Program}
+use Rattle.mol_table_rules.specs.Program.{Program}
 
 module _ {C M X R : Type 0} (view : View C M) (key : X → R) (here : C → Option X) where
   -- what is found in each class is found in the nearest, whatever is told of it

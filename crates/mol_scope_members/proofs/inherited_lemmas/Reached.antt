@@ -16,23 +16,23 @@ use Rattle.mol_scope_classes.proofs.hierarchy_lemmas.OnWays.{on_way-decides}
 use Rattle.mol_scope_classes.specs.hierarchy.Reaching.{Reaches}
 use Rattle.mol_resolve_rules.proofs.ProgramsViewed.{programs_viewed}
 use Rattle.mol_resolve_rules.specs.ProgramViews.{program_view, seen, seen_step, superclass_in}
-use Rattle.mol_table.proofs.Counts.{none-some, some-same}
-use Rattle.mol_table.proofs.Living.{id_tied, same_id-own}
-use Rattle.mol_table.specs.Ancestors.{is_on_way, living_parent}
-use Rattle.mol_table.specs.Heights.{upward}
-use Rattle.mol_table.specs.Mentions.{Mention, a_class, named, type_mentions, type_step}
-use Rattle.mol_table.specs.Program.{Program, class_of_type, class_step, living_at, parent_in, same_id, value_at}
-use Rattle.mol_table.specs.Renumber.{is_class}
-use Rattle.mol_table.specs.Rules.{IsProgram, fills}
-use Rattle.mol_values.specs.declared.cell.Slot.TheVariants as slots
-use Rattle.mol_values.specs.declared.itype.IType.{IType}
-use Rattle.mol_values.specs.declared.itype.IType.TheFolds.{fold-roll-IType, ind-IType, map-IType}
-use Rattle.mol_values.specs.declared.itype.IType.TheOpen.{IType-F}
-use Rattle.mol_values.specs.declared.itype.IType.TheViews.{roll-IType}
-use Rattle.mol_values.specs.declared.known.Known.{Known}
-use Rattle.mol_values.specs.declared.known.Known.TheVariants as knowns
-use Rattle.mol_values.specs.declared.value.Value.{Value}
-use Rattle.mol_values.specs.declared.value.Value.TheVariants as values
+use Rattle.mol_table_rules.proofs.Counts.{none-some, some-same}
+use Rattle.mol_table_rules.proofs.Living.{id_tied, same_id-own}
+use Rattle.mol_table_rules.specs.Ancestors.{is_on_way, living_parent}
+use Rattle.mol_table_rules.specs.Heights.{upward}
+use Rattle.mol_table_rules.specs.Mentions.{Mention, a_class, named, type_mentions, type_step}
+use Rattle.mol_table_rules.specs.Program.{Program, class_of_type, class_step, living_at, parent_in, same_id, value_at}
+use Rattle.mol_table_rules.specs.Renumber.{is_class}
+use Rattle.mol_table_rules.specs.Rules.{IsProgram, fills}
+use Rattle.mol_values_types.specs.declared.cell.Slot.TheVariants as slots
+use Rattle.mol_values_types.specs.declared.itype.IType.{IType}
+use Rattle.mol_values_types.specs.declared.itype.IType.TheFolds.{fold-roll-IType, ind-IType, map-IType}
+use Rattle.mol_values_types.specs.declared.itype.IType.TheOpen.{IType-F}
+use Rattle.mol_values_types.specs.declared.itype.IType.TheViews.{roll-IType}
+use Rattle.mol_values_types.specs.declared.known.Known.{Known}
+use Rattle.mol_values_types.specs.declared.known.Known.TheVariants as knowns
+use Rattle.mol_values_types.specs.declared.value.Value.{Value}
+use Rattle.mol_values_types.specs.declared.value.Value.TheVariants as values
 
 -- ---- superclasses, as a program names them
 

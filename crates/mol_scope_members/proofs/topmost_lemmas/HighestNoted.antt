@@ -6,10 +6,10 @@ use Rattle.jav_names.proofs.Lists.{stands_nowhere, stands_where}
 use Rattle.mol_base.specs.declared.ident.Id.{Id}
 use Rattle.mol_scope_classes.proofs.hierarchy_lemmas.Following.{further}
 use Rattle.mol_scope_classes.proofs.hierarchy_lemmas.OnWays.{on_way-decides}
-use Rattle.mol_table.specs.Ancestors.{is_on_way}
-use Rattle.mol_table.specs.Faults.{is_above}
-use Rattle.mol_table.specs.Program.{Program, owner_at}
-use Rattle.mol_table.specs.Rules.{IsProgram}
+use Rattle.mol_table_rules.specs.Ancestors.{is_on_way}
+use Rattle.mol_table_rules.specs.Faults.{is_above}
+use Rattle.mol_table_rules.specs.Program.{Program, owner_at}
+use Rattle.mol_table_rules.specs.Rules.{IsProgram}
 use Rattle.mol_scope_members.specs.topmost.Highest.{top_in, is_over, first_or_higher, declares, noted_after, IsHighest, IsHighestOf, AreHighest}
 
 -- where an identity among these stands: before the one at which they are split, at it, or after it

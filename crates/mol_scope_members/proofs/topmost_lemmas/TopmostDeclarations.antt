@@ -6,14 +6,14 @@ use Rattle.std.specs.Option.{option_map_or}
 use Rattle.std.proofs.lemmas.Bool.{and_parts}
 use Rattle.mol_base.specs.Order.{id_cmp, id_cmp-total, id_cmp-IsAntisymmetric}
 use Rattle.mol_base.specs.declared.ident.Id.{Id}
-use Rattle.mol_table.proofs.Counts.{none-some, some-same, each_found}
-use Rattle.mol_table.proofs.Living.{id_tied, same_id-own}
-use Rattle.mol_table.specs.Counting.{living_as, living_of}
-use Rattle.mol_table.specs.Faults.{is_above, is_above_living, is_topmost}
-use Rattle.mol_table.specs.Life.{is_decl_of, is_living_decl}
-use Rattle.mol_table.specs.Program.{Program, same_id, living_at, owner_at}
-use Rattle.mol_values.specs.declared.known.Known.{Known}
-use Rattle.mol_values.specs.declared.known.Known.TheVariants as knowns
+use Rattle.mol_table_rules.proofs.Counts.{none-some, some-same, each_found}
+use Rattle.mol_table_rules.proofs.Living.{id_tied, same_id-own}
+use Rattle.mol_table_rules.specs.Counting.{living_as, living_of}
+use Rattle.mol_table_rules.specs.Faults.{is_above, is_above_living, is_topmost}
+use Rattle.mol_table_rules.specs.Life.{is_decl_of, is_living_decl}
+use Rattle.mol_table_rules.specs.Program.{Program, same_id, living_at, owner_at}
+use Rattle.mol_values_types.specs.declared.known.Known.{Known}
+use Rattle.mol_values_types.specs.declared.known.Known.TheVariants as knowns
 
 -- ---- living declarations
 

@@ -9,14 +9,14 @@ use Rattle.std.proofs.lemmas.List.Folds.{find-append}
 use Rattle.jav_names.proofs.Lists.{All-from_each, find-holds_of_none, list_any-found, list_any-none}
 use Rattle.mol_base.specs.declared.ident.Id.{Id}
 use Rattle.mol_scope_classes.proofs.classes_lemmas.KnownIds.{ids-are}
-use Rattle.mol_table.proofs.Counts.{none-some}
-use Rattle.mol_table.proofs.Living.{id_tied, same_id-own}
-use Rattle.mol_table.specs.Counting.{is_of, living_as, living_of}
-use Rattle.mol_table.specs.Faults.{is_topmost}
-use Rattle.mol_table.specs.Identities.{AreKnown, IsAscending}
-use Rattle.mol_table.specs.Program.{Program, living_at, same_id}
-use Rattle.mol_table.specs.Rules.{IsProgram}
-use Rattle.mol_values.specs.declared.known.Known.{Known}
+use Rattle.mol_table_rules.proofs.Counts.{none-some}
+use Rattle.mol_table_rules.proofs.Living.{id_tied, same_id-own}
+use Rattle.mol_table_rules.specs.Counting.{is_of, living_as, living_of}
+use Rattle.mol_table_rules.specs.Faults.{is_topmost}
+use Rattle.mol_table_rules.specs.Identities.{AreKnown, IsAscending}
+use Rattle.mol_table_rules.specs.Program.{Program, living_at, same_id}
+use Rattle.mol_table_rules.specs.Rules.{IsProgram}
+use Rattle.mol_values_types.specs.declared.known.Known.{Known}
 use Rattle.mol_scope_members.specs.topmost.Highest.{top_in, is_over, declares, IsHighest, IsHighestOf, AreHighest, is_under, is_below, stands_beside, AreTopmost}
 use Rattle.mol_scope_members.proofs.topmost_lemmas.HighestNoted.{in-split, over-further}
 use Rattle.mol_scope_members.proofs.topmost_lemmas.TopmostDeclarations.{is-topmost, topmost-above, topmost-declares}

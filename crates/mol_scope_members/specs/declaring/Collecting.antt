@@ -6,8 +6,8 @@ use Rattle.jav_names.specs.Views.{ViewField, ViewDeclaration}
 use Rattle.mol_base.specs.declared.ident.Id.{Id}
 use Rattle.jav_names.specs.declared.id_index.entry.Entry.{Entry}
 use Rattle.mol_resolve_rules.specs.ProgramViews.{living_field, living_declaration, program_view}
-use Rattle.mol_table.specs.Program.{Program}
-use Rattle.mol_values.specs.declared.known.Known.{Known}
+use Rattle.mol_table_rules.specs.Program.{Program}
+use Rattle.mol_values_types.specs.declared.known.Known.{Known}
 use Rattle.mol_scope_members.specs.declaring.MemberEntries.{field_entry, listed_method, listed_constructor, listed_owner, declaring_entry}
 use Rattle.mol_scope_members.specs.declaring.Owners.{field_row, method_row, row_of}
 use Rattle.mol_scope_members.specs.declared.declaring.collected.Collected.{Collected}

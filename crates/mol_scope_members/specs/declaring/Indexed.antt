@@ -12,7 +12,7 @@ use Rattle.mol_scope_classes.specs.declared.hierarchy.position.Position.{Positio
 use Rattle.jav_names.specs.id_index.Seeking.{is_sought, FindsSame}
 use Rattle.jav_names.specs.declared.id_index.entry.Entry.{Entry}
 use Rattle.mol_resolve_rules.specs.ProgramViews.{program_view}
-use Rattle.mol_table.specs.Program.{Program}
+use Rattle.mol_table_rules.specs.Program.{Program}
 use Rattle.mol_scope_members.specs.declaring.MemberEntries.{field_entry, listed_method, listed_constructor, listed_owner, declaring_entry}
 use Rattle.mol_scope_members.specs.declaring.Owners.{AreOwners, field_row, method_row}
 use Rattle.mol_scope_members.specs.declared.declaring.members.Members.{Members}

@@ -4,8 +4,8 @@ use Rattle.jav_names.specs.LookUps.{is_constructor}
 use Rattle.jav_names.specs.Views.{ViewField, ViewDeclaration}
 use Rattle.mol_base.specs.declared.ident.Id.{Id}
 use Rattle.jav_names.specs.declared.id_index.entry.Entry.{Entry}
-use Rattle.mol_values.specs.declared.known.Known.{Known}
-use Rattle.mol_values.specs.declared.known.Known.TheVariants as knowns
+use Rattle.mol_values_types.specs.declared.known.Known.{Known}
+use Rattle.mol_values_types.specs.declared.known.Known.TheVariants as knowns
 
 abbrev pub field_entry : ViewField Id Id → Entry
 field_entry field = record { owner = field.owner; arity = 0; name = field.name; id = field.key }

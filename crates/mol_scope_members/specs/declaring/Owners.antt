@@ -11,8 +11,8 @@ use Rattle.mol_base.specs.Order.{id_cmp}
 use Rattle.mol_base.specs.declared.ident.Id.{Id}
 use Rattle.mol_scope_classes.specs.hierarchy.Paths.{position_in}
 use Rattle.mol_scope_classes.specs.declared.hierarchy.position.Position.{Position}
-use Rattle.mol_table.specs.Heights.{climb}
-use Rattle.mol_table.specs.Program.{Program}
+use Rattle.mol_table_rules.specs.Heights.{climb}
+use Rattle.mol_table_rules.specs.Program.{Program}
 use Rattle.mol_scope_members.specs.declared.declaring.nearest.Nearest.{Nearest}
 use Rattle.mol_scope_members.specs.declared.declaring.owner.Owner.{Owner}
 use Rattle.mol_scope_members.specs.declared.declaring.owner.PlacedOwner.{PlacedOwner}

@@ -4,10 +4,10 @@ use Rattle.std.specs.FinMap.{get, from_entries}
 use Rattle.std.specs.List.{list_any}
 use Rattle.mol_base.specs.Order.{id_cmp}
 use Rattle.mol_base.specs.declared.ident.Id.{Id}
-use Rattle.mol_table.specs.Counting.{is_of, living_of}
-use Rattle.mol_table.specs.Faults.{is_above}
-use Rattle.mol_table.specs.Program.{Program, same_id, owner_at}
-use Rattle.mol_table.specs.Renumber.{topmost}
+use Rattle.mol_table_rules.specs.Counting.{is_of, living_of}
+use Rattle.mol_table_rules.specs.Faults.{is_above}
+use Rattle.mol_table_rules.specs.Program.{Program, same_id, owner_at}
+use Rattle.mol_table_rules.specs.Renumber.{topmost}
 
 -- the declaration that the entries have for a method
 abbrev pub top_in : List (Id × Id) → Id → Option Id

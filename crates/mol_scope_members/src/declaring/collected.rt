@@ -2,7 +2,7 @@
 ghost use Rattle.std.specs.Prelude.{◌≡◌, [], IfOk, OnOk, Some, None};
 ghost use Rattle.std.specs.FinMap as map;
 ghost use Rattle.mol_resolve_rules.specs.ProgramViews.{declaration_of, field_of};
-ghost use Rattle.mol_values.specs.declared.known.Known.TheVariants as knowns;
+ghost use Rattle.mol_values_types.specs.declared.known.Known.TheVariants as knowns;
 ghost use Rattle.mol_scope_members.specs.declaring.Collecting.{Adds, AddsKnown, AreCollected};
 ghost use Rattle.mol_scope_members.specs.declaring.MemberEntries.{declaring_entry};
 
@@ -14,7 +14,7 @@ use jav_names::id_index::Entry;
 use mol_base::{Id, OutOfMemory};
 use mol_scope_classes::{is_constructor, name_of, params_of};
 use mol_table::Table;
-use mol_values::Known;
+use mol_values_types::Known;
 use std::alloc::Global;
 
 /// Entries for the indexes of members, and the classes that declare them.

@@ -1,6 +1,6 @@
 //! Fields and declarations that live, with the classes in which they stand.
 ghost use Rattle.std.specs.Prelude.{◌≡◌, None, if◌then◌else◌};
-ghost use Rattle.mol_table.specs.Program.{living_at, owner_at};
+ghost use Rattle.mol_table_rules.specs.Program.{living_at, owner_at};
 
 use mol_base::Id;
 use mol_scope_classes::{is_live, owner_of};

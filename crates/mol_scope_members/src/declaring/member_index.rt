@@ -1,6 +1,6 @@
 //! A table as the rules on names look at it.
 ghost use Rattle.std.specs.Prelude.{◌≡◌, IfOk};
-ghost use Rattle.mol_table.specs.Ancestors.{is_on_way};
+ghost use Rattle.mol_table_rules.specs.Ancestors.{is_on_way};
 
 use crate::declaring::members::Members;
 use mol_base::{Id, OutOfMemory};
@@ -23,11 +23,11 @@ impl<'a> Model for MemberIndex<'a> {
     ghost use Rattle.mol_base.specs.contracts.ident.Id as id;
     ghost use Rattle.mol_scope_members.specs.declaring.Indexed.{AreIndexed, AreOwned};
     ghost use Rattle.mol_scope_classes.specs.hierarchy.Paths.{ArePaths};
-    ghost use Rattle.mol_table.specs.Maps.{program_code};
-    ghost use Rattle.mol_table.specs.Program.{Program};
-    ghost use Rattle.mol_values.specs.contracts.cell.Cell as cell;
-    ghost use Rattle.mol_values.specs.contracts.known.Known as what;
-    ghost use Rattle.mol_values.specs.contracts.value.Value as value;
+    ghost use Rattle.mol_table_rules.specs.Program.{program_code};
+    ghost use Rattle.mol_table_rules.specs.Program.{Program};
+    ghost use Rattle.mol_values_types.specs.contracts.cell.Cell as cell;
+    ghost use Rattle.mol_values_types.specs.contracts.known.Known as what;
+    ghost use Rattle.mol_values_types.specs.contracts.value.Value as value;
 
     ghost Value = { Program };
 

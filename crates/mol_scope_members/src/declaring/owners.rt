@@ -2,7 +2,7 @@
 ghost use Rattle.std.specs.Prelude.{◌≡◌, ◌↔◌, ◌++◌, ◌∷◌, [], Contains, IfOk, IsTrue, OnOk, map};
 ghost use Rattle.std.specs.List.Sorted.{IsSorted};
 ghost use Rattle.mol_scope_classes.specs.hierarchy.Paths.{ArePaths};
-ghost use Rattle.mol_table.specs.Program.{Program};
+ghost use Rattle.mol_table_rules.specs.Program.{Program};
 ghost use Rattle.mol_scope_members.specs.declaring.Owners.{AreOwners, ArePlaced, IsNamed, IsNearest, place_cmp, placed_row, row_of, with_position};
 
 use crate::declaring::nearest::Nearest;

@@ -1,5 +1,5 @@
 //! What holds of each table.
-ghost use Rattle.mol_table.specs.Rules.{IsProgram};
+ghost use Rattle.mol_table_rules.specs.Rules.{IsProgram};
 
 use mol_table::Table;
 

@@ -1,6 +1,6 @@
 //! Which of two declarations stands higher.
 ghost use Rattle.std.specs.Prelude.{◌≡◌};
-ghost use Rattle.mol_table.specs.Faults.{is_above};
+ghost use Rattle.mol_table_rules.specs.Faults.{is_above};
 ghost use Rattle.mol_scope_members.specs.topmost.Highest.{higher as higher_of, is_over as is_over_of};
 
 use mol_base::Id;

@@ -1,8 +1,8 @@
 //! For each method the one declaration that may be its topmost one: the first that lives and that none stands above but such as are as high.
 ghost use Rattle.std.specs.Prelude.{◌≡◌, IfOk, OnOk, Some, cond};
 ghost use Rattle.mol_base.specs.declared.ident.Id.{Id as Identity};
-ghost use Rattle.mol_table.specs.Program.{same_id};
-ghost use Rattle.mol_table.specs.Rules.{IsProgram};
+ghost use Rattle.mol_table_rules.specs.Program.{same_id};
+ghost use Rattle.mol_table_rules.specs.Rules.{IsProgram};
 ghost use Rattle.mol_scope_members.specs.topmost.Highest.{AreHighest, first_or_higher, noted_after, top_in};
 
 use crate::topmost::higher::higher;

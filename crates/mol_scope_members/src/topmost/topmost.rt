@@ -1,6 +1,6 @@
 //! Topmost declarations.
 ghost use Rattle.std.specs.Prelude.{◌≡◌, IfOk};
-ghost use Rattle.mol_table.specs.Renumber.{topmost};
+ghost use Rattle.mol_table_rules.specs.Renumber.{topmost};
 
 use crate::topmost::highest::highest;
 use crate::topmost::unordered::unordered;
@@ -22,12 +22,12 @@ pub struct Topmost<'a> {
 
 impl<'a> Model for Topmost<'a> {
     ghost use Rattle.mol_base.specs.contracts.ident.Id as id;
-    ghost use Rattle.mol_table.specs.Maps.{program_code};
-    ghost use Rattle.mol_table.specs.Program.{Program};
+    ghost use Rattle.mol_table_rules.specs.Program.{program_code};
+    ghost use Rattle.mol_table_rules.specs.Program.{Program};
     ghost use Rattle.mol_scope_members.specs.topmost.Highest.{AreTopmost};
-    ghost use Rattle.mol_values.specs.contracts.cell.Cell as cell;
-    ghost use Rattle.mol_values.specs.contracts.known.Known as what;
-    ghost use Rattle.mol_values.specs.contracts.value.Value as value;
+    ghost use Rattle.mol_values_types.specs.contracts.cell.Cell as cell;
+    ghost use Rattle.mol_values_types.specs.contracts.known.Known as what;
+    ghost use Rattle.mol_values_types.specs.contracts.value.Value as value;
 
     ghost Value = { Program };
 

@@ -2,7 +2,7 @@
 ghost use Rattle.std.specs.Prelude.{◌≡◌, ◌||◌, IfOk, OnOk};
 ghost use Rattle.std.specs.List.{list_any};
 ghost use Rattle.mol_base.specs.declared.ident.Id.{Id as Identity};
-ghost use Rattle.mol_table.specs.Program.{same_id};
+ghost use Rattle.mol_table_rules.specs.Program.{same_id};
 ghost use Rattle.mol_scope_members.specs.topmost.Highest.{is_under, stands_beside};
 
 use crate::topmost::higher::is_over;

@@ -7,9 +7,9 @@ use Rattle.std.proofs.lemmas.List.{map-append, take_all}
 use Rattle.mol_base.specs.declared.ident.Id.{Id}
 use Rattle.mol_scope_classes.proofs.classes_lemmas.KnownIds.{ids-are, made-more, mapped-one}
 use Rattle.mol_spell_rules.specs.SpelledUnits.{UnitKey as Key, key_at, living_classes}
-use Rattle.mol_table.specs.Identities.{AreKnown, IsAscending}
-use Rattle.mol_table.specs.Program.{Program}
-use Rattle.mol_table.specs.Renumber.{is_living_class}
+use Rattle.mol_table_rules.specs.Identities.{AreKnown, IsAscending}
+use Rattle.mol_table_rules.specs.Program.{Program}
+use Rattle.mol_table_rules.specs.Renumber.{is_living_class}
 use Rattle.mol_spell.specs.keys.Keys.{key_of, maybe_key}
 use Rattle.mol_spell.specs.declared.keys.unit_key.UnitKey.{UnitKey}
 

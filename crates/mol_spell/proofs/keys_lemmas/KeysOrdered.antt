@@ -18,8 +18,8 @@ use Rattle.mol_spell_rules.proofs.FilesOrdered.{then_both}
 use Rattle.mol_spell_rules.proofs.SetItems.{keys-ascend, set-is}
 use Rattle.mol_spell_rules.specs.Sets.{as_set}
 use Rattle.mol_spell_rules.specs.SpelledUnits.{UnitKey as Key, key_at, living_classes, unit_key_cmp}
-use Rattle.mol_table.specs.Program.{Program}
-use Rattle.mol_table.specs.Renumber.{is_living_class}
+use Rattle.mol_table_rules.specs.Program.{Program}
+use Rattle.mol_table_rules.specs.Renumber.{is_living_class}
 
 -- ---- the order of keys
 

@@ -8,12 +8,12 @@ use Rattle.mol_base.specs.declared.ident.Id.{Id}
 use Rattle.mol_scope_classes.specs.class_members.Members.{member_entry}
 use Rattle.mol_scope_classes.specs.declared.class_members.class_member.ClassMember.{ClassMember}
 use Rattle.mol_spell_rules.specs.SpelledUnits.{declaration_member}
-use Rattle.mol_table.specs.Program.{Program}
+use Rattle.mol_table_rules.specs.Program.{Program}
 use Rattle.mol_spell.specs.units.MemberTrees.{member_of_kind}
-use Rattle.mol_values.specs.declared.kind.MethodKind.{MethodKind}
-use Rattle.mol_values.specs.declared.kind.MethodKind.TheVariants.{Instance, Static, Constructor}
-use Rattle.mol_values.specs.declared.known.Known.{Known}
-use Rattle.mol_values.specs.declared.known.Known.TheVariants as knowns
+use Rattle.mol_values_types.specs.declared.kind.MethodKind.{MethodKind}
+use Rattle.mol_values_types.specs.declared.kind.MethodKind.TheVariants.{Instance, Static, Constructor}
+use Rattle.mol_values_types.specs.declared.known.Known.{Known}
+use Rattle.mol_values_types.specs.declared.known.Known.TheVariants as knowns
 
 module _ {T : Type 0} (tree : Id × Known → Option T) where
   last-made : (member : Id × Known) → filter_map tree (member ∷ []) ≡ option_to_list (tree member)

@@ -7,11 +7,11 @@ use Rattle.jav_tree.specs.declared.unit.Member.{Member}
 use Rattle.jav_tree.specs.declared.unit.Unit.{Unit as Source}
 use Rattle.mol_base.specs.declared.ident.Id.{Id}
 use Rattle.mol_spell_rules.specs.SpelledUnits.{notes_at, words_at}
-use Rattle.mol_table.specs.Program.{Program, name_at, package_at}
+use Rattle.mol_table_rules.specs.Program.{Program, name_at, package_at}
 use Rattle.mol_spell.specs.declared.units.class_parts.ClassHead.{ClassHead}
 use Rattle.mol_spell.specs.declared.units.class_parts.FileHead.{FileHead}
 use Rattle.mol_spell.specs.declared.units.heads.MemberHead.{MemberHead}
-use Rattle.mol_values.specs.declared.words.Notes.{Notes}
+use Rattle.mol_values_types.specs.declared.words.Notes.{Notes}
 
 -- no comments, where there are none
 abbrev pub notes_or_none : Option Notes → Notes

@@ -15,17 +15,17 @@ use Rattle.mol_spell_rules.specs.SpelledExpressions.{spelled_expr}
 use Rattle.mol_spell_rules.specs.SpelledStatements.{declared_type}
 use Rattle.mol_spell_rules.specs.SpelledUnits.{constructor_member, method_member, params_of, result_tree}
 use Rattle.mol_spell_rules.specs.Writers.{Writer}
-use Rattle.mol_table.specs.Program.{Program, name_at, value_at}
+use Rattle.mol_table_rules.specs.Program.{Program, name_at, value_at}
 use Rattle.mol_spell.specs.units.Headings.{member_head}
 use Rattle.mol_spell.specs.declared.units.fields.FieldValue.{FieldValue}
 use Rattle.mol_spell.specs.declared.units.heads.MemberHead.{MemberHead}
 use Rattle.mol_spell.specs.declared.units.methods.Signature.{Signature}
-use Rattle.mol_values.specs.declared.cell.Slot.TheVariants as slots
-use Rattle.mol_values.specs.declared.iexpr.IExpr.{IExpr}
-use Rattle.mol_values.specs.declared.itype.IType.{IType}
-use Rattle.mol_values.specs.declared.kind.MethodKind.{MethodKind}
-use Rattle.mol_values.specs.declared.kind.MethodKind.TheVariants.{Instance, Static, Constructor}
-use Rattle.mol_values.specs.declared.param.Param.{Param}
+use Rattle.mol_values_types.specs.declared.cell.Slot.TheVariants as slots
+use Rattle.mol_values_types.specs.declared.iexpr.IExpr.{IExpr}
+use Rattle.mol_values_types.specs.declared.itype.IType.{IType}
+use Rattle.mol_values_types.specs.declared.kind.MethodKind.{MethodKind}
+use Rattle.mol_values_types.specs.declared.kind.MethodKind.TheVariants.{Instance, Static, Constructor}
+use Rattle.mol_values_types.specs.declared.param.Param.{Param}
 
 -- where no locals are
 abbrev pub type_tree : Writer → IType → TypeName

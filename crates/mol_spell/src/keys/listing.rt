@@ -2,7 +2,7 @@
 ghost use Rattle.std.specs.Prelude.{◌≡◌, ◌++◌, IfOk, OnOk, None, Some, map, if◌then◌else◌};
 ghost use Rattle.std.specs.Option.{option_to_list};
 ghost use Rattle.mol_spell_rules.specs.SpelledUnits.{key_at, living_classes};
-ghost use Rattle.mol_table.specs.Renumber.{is_living_class};
+ghost use Rattle.mol_table_rules.specs.Renumber.{is_living_class};
 ghost use Rattle.mol_spell.specs.keys.Keys.{key_of, maybe_key};
 
 use crate::keys::paths::path_text;

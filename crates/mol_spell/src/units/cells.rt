@@ -5,7 +5,7 @@ ghost use Rattle.mol_spell.specs.units.Headings.{notes_or_none};
 
 use mol_base::{Id, Text};
 use mol_table::Table;
-use mol_values::{Cell, Notes, Slot, Value};
+use mol_values_types::{Cell, Notes, Slot, Value};
 
 /// The modifiers of an entity; none where it has no such cell.
 pub(crate) fn words_of<'a>(table: &'a Table, id: &Id) -> &'a [Text]

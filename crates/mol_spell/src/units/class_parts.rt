@@ -7,7 +7,7 @@ use jav_tree::{ClassDecl, Member, TypeName, Unit};
 use mol_base::{Id, List, OutOfMemory, Text};
 use mol_scope_classes::{name_of, package_of};
 use mol_table::Table;
-use mol_values::copy_texts;
+use mol_values_types::copy_texts;
 use std::alloc::Global;
 
 /// The comments, the modifiers and the name of a class.

@@ -8,7 +8,7 @@ use crate::units::unit_writer::UnitWriter;
 use jav_tree::Member;
 use mol_base::{Id, OutOfMemory};
 use mol_spell_names::FileNames;
-use mol_values::{Known, MethodKind};
+use mol_values_types::{Known, MethodKind};
 
 impl<F: FileNames> UnitWriter<'_, F> {
     /// A declaration of a method as a member, if this is one of a method.

@@ -2,9 +2,9 @@
 ghost use Rattle.std.specs.Prelude.{◌≡◌, IfOk, IsOkAnd};
 ghost use Rattle.mol_spell_rules.specs.SimpleNames.{unit_writer};
 ghost use Rattle.mol_spell_rules.specs.SpelledUnits.{field_member};
-ghost use Rattle.mol_table.specs.Program.{cell, value_at};
+ghost use Rattle.mol_table_rules.specs.Program.{cell, value_at};
 ghost use Rattle.mol_spell.specs.units.MemberTrees.{field_of, field_tree, field_value};
-ghost use Rattle.mol_values.specs.declared.cell.Slot.TheVariants as slots;
+ghost use Rattle.mol_values_types.specs.declared.cell.Slot.TheVariants as slots;
 
 use crate::units::heads::MemberHead;
 use crate::units::trees::{first_value, type_tree};
@@ -14,7 +14,7 @@ use mol_base::{Id, OutOfMemory, Text};
 use mol_scope_classes::name_of;
 use mol_spell_names::FileNames;
 use mol_spell_places::Places;
-use mol_values::{IExpr, IType, Slot, Value};
+use mol_values_types::{IExpr, IType, Slot, Value};
 use std::alloc::Global;
 
 /// The type of a field, and its first value.

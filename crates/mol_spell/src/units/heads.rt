@@ -5,7 +5,7 @@ ghost use Rattle.mol_spell.specs.units.Headings.{member_head};
 use crate::units::cells::{front_of, words_of};
 use mol_base::{Id, List, OutOfMemory, Text};
 use mol_table::Table;
-use mol_values::copy_texts;
+use mol_values_types::copy_texts;
 use std::alloc::Global;
 
 /// The comments before a member, and its modifiers.

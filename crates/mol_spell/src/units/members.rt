@@ -11,7 +11,7 @@ use jav_tree::Member;
 use mol_base::{List, OutOfMemory};
 use mol_scope_classes::ClassMember;
 use mol_spell_names::FileNames;
-use mol_values::Known;
+use mol_values_types::Known;
 
 impl<F: FileNames> UnitWriter<'_, F> {
     /// The members of the class, in the order of their identities.

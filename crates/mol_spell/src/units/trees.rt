@@ -7,7 +7,7 @@ use jav_tree::{Block, Expr, Param as ParamName, TypeName};
 use mol_base::{List, OutOfMemory};
 use mol_spell_body::BodyWriter;
 use mol_spell_places::{BodyLocals, Places};
-use mol_values::{IBody, IExpr, IType, Param};
+use mol_values_types::{IBody, IExpr, IType, Param};
 use std::alloc::Global;
 
 /// The type of a declaration.

@@ -5,10 +5,10 @@ ghost use Rattle.mol_spell_names.specs.body_names.FilePlaces.{writer_of};
 ghost use Rattle.mol_spell_rules.specs.SimpleNames.{unit_writer};
 ghost use Rattle.mol_spell_rules.specs.SpelledStatements.{spelled_body};
 ghost use Rattle.mol_spell_rules.specs.SpelledUnits.{body_tree, params_of, parent_tree, result_tree};
-ghost use Rattle.mol_table.specs.Program.{cell, value_at};
+ghost use Rattle.mol_table_rules.specs.Program.{cell, value_at};
 ghost use Rattle.mol_spell.specs.units.MemberTrees.{type_tree};
-ghost use Rattle.mol_values.specs.declared.cell.Slot.{Slot as Place};
-ghost use Rattle.mol_values.specs.declared.cell.Slot.TheVariants as slots;
+ghost use Rattle.mol_values_types.specs.declared.cell.Slot.{Slot as Place};
+ghost use Rattle.mol_values_types.specs.declared.cell.Slot.TheVariants as slots;
 
 use crate::units::trees::{body_tree, param_trees, type_tree};
 use crate::units::unit_writer::UnitWriter;
@@ -16,7 +16,7 @@ use jav_tree::{Block, Param as ParamName, TypeName};
 use mol_base::{Id, List, OutOfMemory};
 use mol_scope_classes::params_of;
 use mol_spell_names::{BodyNames, FileNames};
-use mol_values::{Cell, IBody, IType, Known, Slot, Value};
+use mol_values_types::{Cell, IBody, IType, Known, Slot, Value};
 
 impl<'a, F: FileNames> UnitWriter<'a, F> {
     /// The value of a cell of an entity.

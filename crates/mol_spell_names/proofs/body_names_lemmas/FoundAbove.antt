@@ -30,16 +30,16 @@ use Rattle.mol_resolve_rules.specs.Readers.{Reader, place_of}
 use Rattle.mol_resolve_rules.specs.StaticTypes.{class_of_only_declaration}
 use Rattle.mol_spell_rules.specs.SpelledExpressions.{is_declaration_of, is_field, reads_field, reads_method}
 use Rattle.mol_spell_rules.specs.Writers.{Importable}
-use Rattle.mol_table.proofs.Counts.{each_found}
-use Rattle.mol_table.proofs.Living.{id_tied, same_id-own}
-use Rattle.mol_table.specs.Ancestors.{is_on_way}
-use Rattle.mol_table.specs.Faults.{is_above}
-use Rattle.mol_table.specs.Life.{is_decl_of}
-use Rattle.mol_table.specs.Program.{Program, living_at, name_at, owner_at, same_id}
-use Rattle.mol_table.specs.Rules.{IsProgram}
-use Rattle.mol_values.specs.declared.kind.MethodKind.TheVariants.{Constructor, Instance, Static}
-use Rattle.mol_values.specs.declared.known.Known.{Known}
-use Rattle.mol_values.specs.declared.known.Known.TheVariants as knowns
+use Rattle.mol_table_rules.proofs.Counts.{each_found}
+use Rattle.mol_table_rules.proofs.Living.{id_tied, same_id-own}
+use Rattle.mol_table_rules.specs.Ancestors.{is_on_way}
+use Rattle.mol_table_rules.specs.Faults.{is_above}
+use Rattle.mol_table_rules.specs.Life.{is_decl_of}
+use Rattle.mol_table_rules.specs.Program.{Program, living_at, name_at, owner_at, same_id}
+use Rattle.mol_table_rules.specs.Rules.{IsProgram}
+use Rattle.mol_values_types.specs.declared.kind.MethodKind.TheVariants.{Constructor, Instance, Static}
+use Rattle.mol_values_types.specs.declared.known.Known.{Known}
+use Rattle.mol_values_types.specs.declared.known.Known.TheVariants as knowns
 
 -- the first that passes, where there is one
 some-found : {X : Type 0} (p : X → Bool) (xs : List X) (x : X) → Contains xs x → p x ≡ true

@@ -13,7 +13,7 @@ use Rattle.mol_resolve_rules.specs.ProgramViews.{method_at, program_view}
 use Rattle.mol_resolve_rules.specs.Readers.{Reader}
 use Rattle.mol_spell_rules.specs.SpelledExpressions.{is_declaration_of, is_field, reads_method}
 use Rattle.mol_spell_rules.specs.Writers.{Importable, is_variable}
-use Rattle.mol_table.specs.Program.{Program, name_at, same_id}
+use Rattle.mol_table_rules.specs.Program.{Program, name_at, same_id}
 use Rattle.mol_scope.specs.variables.Keys.{found_in, variable_key}
 
 pub variable-found : (read : Found (Read Id Id)) → is_some (found_in (answered variable_key read)) ≡ is_variable read

@@ -11,11 +11,11 @@ use Rattle.mol_resolve_rules.specs.ProgramViews.{program_view}
 use Rattle.mol_resolve_rules.specs.Readers.{Parameter, place_of}
 use Rattle.mol_spell_rules.specs.UnitCells.{cell_writer, reader_as}
 use Rattle.mol_spell_rules.specs.Writers.{Importable, Writer}
-use Rattle.mol_table.specs.Program.{Program, cell, params_at}
-use Rattle.mol_values.specs.declared.cell.Slot.{Slot}
-use Rattle.mol_values.specs.declared.known.Known.{Known}
-use Rattle.mol_values.specs.declared.known.Known.TheVariants as knowns
-use Rattle.mol_values.specs.declared.param.Param.{Param}
+use Rattle.mol_table_rules.specs.Program.{Program, cell, params_at}
+use Rattle.mol_values_types.specs.declared.cell.Slot.{Slot}
+use Rattle.mol_values_types.specs.declared.known.Known.{Known}
+use Rattle.mol_values_types.specs.declared.known.Known.TheVariants as knowns
+use Rattle.mol_values_types.specs.declared.param.Param.{Param}
 
 names-alike : (params : List Param) → map (λ (p : Parameter Id). p.name) (map parameter_in params) ≡ map (λ (p : Param). p.name) params
 names-alike [] = refl

@@ -8,13 +8,13 @@ use Rattle.mol_base.specs.declared.ident.Id.{Id}
 use Rattle.mol_spell_names.specs.program_index.KeptUses.{AreUses, AreUsesBut, PutsUses, living_uses}
 use Rattle.mol_spell_rules.specs.SimpleNames.{uses_in}
 use Rattle.mol_spell_rules.specs.Writers.{Use}
-use Rattle.mol_table.proofs.Living.{id_tied, same_id-own}
-use Rattle.mol_table.specs.Identities.{AreKnown}
-use Rattle.mol_table.specs.Program.{Program, living_at}
-use Rattle.mol_table.specs.Renumber.{is_class, is_living_class}
-use Rattle.mol_values.proofs.Ties.{id_ties}
-use Rattle.mol_values.specs.Order.{id_eq}
-use Rattle.mol_values.specs.declared.known.Known.{Known}
+use Rattle.mol_table_rules.proofs.Living.{id_tied, same_id-own}
+use Rattle.mol_table_rules.specs.Identities.{AreKnown}
+use Rattle.mol_table_rules.specs.Program.{Program, living_at}
+use Rattle.mol_table_rules.specs.Renumber.{is_class, is_living_class}
+use Rattle.mol_values_types.proofs.Ties.{id_ties}
+use Rattle.mol_values_types.specs.Order.{id_eq}
+use Rattle.mol_values_types.specs.declared.known.Known.{Known}
 
 -- # One more identity is asked
 

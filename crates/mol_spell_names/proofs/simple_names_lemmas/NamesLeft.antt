@@ -7,7 +7,7 @@ use Rattle.mol_base.specs.declared.ident.Id.{Id}
 use Rattle.mol_spell_names.specs.simple_names.Bearers.{AreBearers, Bearers, bearer_at, leaves_name, may_be}
 use Rattle.mol_spell_rules.specs.SimpleNames.{begins_written, is_no_rival, is_simple_beside, same_importable}
 use Rattle.mol_spell_rules.specs.Writers.{Importable, Use, importable_use, outside_import, program_class, simple_of}
-use Rattle.mol_table.specs.Program.{Program, name_at}
+use Rattle.mol_table_rules.specs.Program.{Program, name_at}
 use Rattle.mol_spell_uses.specs.uses.Kept.{kept_use}
 use Rattle.mol_spell_uses.specs.declared.uses.used.Use.{Use as Kept}
 use Rattle.mol_spell_uses.specs.declared.uses.used.Use.TheVariants as kept

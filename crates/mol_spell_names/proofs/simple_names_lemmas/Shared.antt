@@ -6,7 +6,7 @@ use Rattle.jav_names.specs.DottedNames.{Name}
 use Rattle.mol_spell_names.specs.simple_names.Bearers.{Bearers, bearer_at, may_be}
 use Rattle.mol_spell_rules.specs.SimpleNames.{same_importable}
 use Rattle.mol_spell_rules.specs.Writers.{Importable, outside_import, program_class}
-use Rattle.mol_table.proofs.Living.{id_tied, same_id-own}
+use Rattle.mol_table_rules.proofs.Living.{id_tied, same_id-own}
 use Rattle.mol_spell_expr.specs.Importables.{importable_of}
 use Rattle.mol_spell_expr.specs.declared.importable.Importable.{Importable as Lent}
 

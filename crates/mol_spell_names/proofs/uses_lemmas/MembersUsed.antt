@@ -10,9 +10,9 @@ use Rattle.mol_spell_names.specs.uses.CellUses.{member_uses, members_uses}
 use Rattle.mol_spell_rules.specs.SimpleNames.{uses_at}
 use Rattle.mol_spell_rules.specs.UnitCells.{cell_writer, member_cells}
 use Rattle.mol_spell_rules.specs.Writers.{Use, Writer}
-use Rattle.mol_table.specs.Program.{Program, value_at}
-use Rattle.mol_values.specs.declared.cell.Cell.{Cell}
-use Rattle.mol_values.specs.declared.value.Value.{Value}
+use Rattle.mol_table_rules.specs.Program.{Program, value_at}
+use Rattle.mol_values_types.specs.declared.cell.Cell.{Cell}
+use Rattle.mol_values_types.specs.declared.value.Value.{Value}
 
 flat-both : {A B : Type 0} (of : A → List B) (xs ys : List A) → flat_map of (xs ++ ys) ≡ flat_map of xs ++ flat_map of ys
 flat-both of [] ys = refl

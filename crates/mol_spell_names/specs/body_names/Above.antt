@@ -2,11 +2,11 @@
 use Rattle.std.specs.Prelude.{Bool, true, Option, Some}
 use Rattle.mol_base.specs.declared.ident.Id.{Id}
 use Rattle.mol_resolve_rules.specs.StaticTypes.{class_of_only_declaration}
-use Rattle.mol_table.specs.Faults.{is_above}
-use Rattle.mol_table.specs.Program.{Program, owner_at}
-use Rattle.mol_values.specs.declared.kind.MethodKind.TheVariants.{Static}
-use Rattle.mol_values.specs.declared.known.Known.{Known}
-use Rattle.mol_values.specs.declared.known.Known.TheVariants as knowns
+use Rattle.mol_table_rules.specs.Faults.{is_above}
+use Rattle.mol_table_rules.specs.Program.{Program, owner_at}
+use Rattle.mol_values_types.specs.declared.kind.MethodKind.TheVariants.{Static}
+use Rattle.mol_values_types.specs.declared.known.Known.{Known}
+use Rattle.mol_values_types.specs.declared.known.Known.TheVariants as knowns
 
 -- a field stands in the class or above it
 abbrev pub has_field_above : Program → Id → Id → Bool

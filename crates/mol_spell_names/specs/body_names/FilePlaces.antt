@@ -5,10 +5,10 @@ use Rattle.mol_base.specs.declared.ident.Id.{Id}
 use Rattle.mol_resolve_rules.specs.Readers.{Reader}
 use Rattle.mol_spell_rules.specs.UnitCells.{reader_as}
 use Rattle.mol_spell_rules.specs.Writers.{Importable, Writer}
-use Rattle.mol_table.specs.Program.{Program, params_at}
-use Rattle.mol_values.specs.declared.known.Known.{Known}
-use Rattle.mol_values.specs.declared.known.Known.TheVariants as knowns
-use Rattle.mol_values.specs.declared.param.Param.{Param}
+use Rattle.mol_table_rules.specs.Program.{Program, params_at}
+use Rattle.mol_values_types.specs.declared.known.Known.{Known}
+use Rattle.mol_values_types.specs.declared.known.Known.TheVariants as knowns
+use Rattle.mol_values_types.specs.declared.param.Param.{Param}
 
 -- where names are read, with these imports
 abbrev pub reader_in : Program → Names → Id → Option Id → Reader Id Id

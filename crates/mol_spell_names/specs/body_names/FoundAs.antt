@@ -5,7 +5,7 @@ use Rattle.jav_scope.specs.declared.found.Found.TheVariants as answer
 use Rattle.jav_names.specs.DottedNames.{Name}
 use Rattle.mol_base.specs.declared.ident.Id.{Id}
 use Rattle.mol_resolve_rules.specs.ProgramViews.{method_at}
-use Rattle.mol_table.specs.Program.{Program, same_id}
+use Rattle.mol_table_rules.specs.Program.{Program, same_id}
 use Rattle.mol_scope.specs.declared.variables.variable.Variable.{Variable}
 use Rattle.mol_scope.specs.declared.variables.variable.Variable.TheVariants as variable
 

@@ -5,9 +5,9 @@ use Rattle.std.specs.Map.{lookup}
 use Rattle.mol_base.specs.declared.ident.Id.{Id}
 use Rattle.mol_spell_rules.specs.SimpleNames.{uses_in}
 use Rattle.mol_spell_rules.specs.Writers.{Use}
-use Rattle.mol_table.specs.Program.{Program}
-use Rattle.mol_table.specs.Renumber.{is_living_class}
-use Rattle.mol_values.specs.Order.{id_eq}
+use Rattle.mol_table_rules.specs.Program.{Program}
+use Rattle.mol_table_rules.specs.Renumber.{is_living_class}
+use Rattle.mol_values_types.specs.Order.{id_eq}
 
 -- what the names in the file of a class use, where the class lives
 abbrev pub living_uses : Program → Id → Option (List Use)

@@ -6,7 +6,7 @@ use Rattle.std.specs.Str.{bytes_eq}
 use Rattle.jav_names.specs.DottedNames.{Name}
 use Rattle.mol_spell_rules.specs.SimpleNames.{begins_written, is_no_rival, is_simple_beside, same_importable}
 use Rattle.mol_spell_rules.specs.Writers.{Importable, Use, simple_of}
-use Rattle.mol_table.specs.Program.{Program}
+use Rattle.mol_table_rules.specs.Program.{Program}
 use Rattle.mol_spell_expr.specs.Importables.{importable_of}
 use Rattle.mol_spell_expr.specs.declared.importable.Importable.{Importable as Lent}
 

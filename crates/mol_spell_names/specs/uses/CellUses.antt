@@ -5,8 +5,8 @@ use Rattle.mol_base.specs.declared.ident.Id.{Id}
 use Rattle.mol_spell_rules.specs.SimpleNames.{uses_at}
 use Rattle.mol_spell_rules.specs.UnitCells.{member_cells}
 use Rattle.mol_spell_rules.specs.Writers.{Use}
-use Rattle.mol_table.specs.Program.{Program}
-use Rattle.mol_values.specs.declared.known.Known.{Known}
+use Rattle.mol_table_rules.specs.Program.{Program}
+use Rattle.mol_values_types.specs.declared.known.Known.{Known}
 
 module _ (program : Program) (class : Id) where
   abbrev pub member_uses : Id × Known → List Use

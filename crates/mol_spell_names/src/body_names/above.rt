@@ -3,15 +3,15 @@
 ghost use Rattle.std.specs.Prelude.{◌≡◌, Some};
 ghost use Rattle.std.specs.FinMap as map;
 ghost use Rattle.mol_spell_names.specs.body_names.Above.{has_field_above, has_method_above};
-ghost use Rattle.mol_table.specs.Faults.{is_above};
-ghost use Rattle.mol_table.specs.Rules.{IsProgram};
+ghost use Rattle.mol_table_rules.specs.Faults.{is_above};
+ghost use Rattle.mol_table_rules.specs.Rules.{IsProgram};
 
 use crate::body_names::body_names::BodyNames;
 use crate::body_names::file_names::FileNames;
 use mol_base::Id;
 use mol_scope_classes::owner_of;
 use mol_table::Table;
-use mol_values::{Known, MethodKind};
+use mol_values_types::{Known, MethodKind};
 
 impl<F: FileNames> BodyNames<'_, F> {
     /// Whether a field stands in the class of the file, or in an ancestor of it.

@@ -3,8 +3,8 @@ ghost use Rattle.std.specs.Prelude.{◌≡◌, IfOk};
 ghost use Rattle.std.specs.FinMap as map;
 ghost use Rattle.mol_spell_names.specs.body_names.FilePlaces.{declared_in, param_names_in, writer_of};
 ghost use Rattle.mol_spell_rules.specs.UnitCells.{cell_writer};
-ghost use Rattle.mol_table.specs.Program.{cell};
-ghost use Rattle.mol_values.specs.declared.cell.Slot.{Slot};
+ghost use Rattle.mol_table_rules.specs.Program.{cell};
+ghost use Rattle.mol_values_types.specs.declared.cell.Slot.{Slot};
 
 use crate::body_names::file_names::FileNames;
 use mol_base::{Id, OutOfMemory};
@@ -12,7 +12,7 @@ use mol_scope::MemberIndex;
 use mol_scope_classes::params_of;
 use mol_spell_places::ParamNames;
 use mol_table::Table;
-use mol_values::Known;
+use mol_values_types::Known;
 use std::alloc::Global;
 
 /// A place where names of a table are written: in the file of a class, in a declaration of a method or in none.

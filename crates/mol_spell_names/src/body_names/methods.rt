@@ -4,14 +4,14 @@ ghost use Rattle.jav_scope.specs.Answers.{answered};
 ghost use Rattle.jav_names.specs.LookUps.{method_from};
 ghost use Rattle.mol_spell_names.specs.body_names.FoundAs.{is_method_found, name_or_empty};
 ghost use Rattle.mol_resolve_rules.specs.ProgramViews.{method_at, program_view};
-ghost use Rattle.mol_table.specs.Program.{name_at};
+ghost use Rattle.mol_table_rules.specs.Program.{name_at};
 
 use crate::body_names::params::is_same;
 use jav_scope::Found;
 use mol_base::{Id, Text};
 use mol_scope::{MemberIndex, method_of};
 use mol_table::Table;
-use mol_values::{Cell, Known, Slot, Value};
+use mol_values_types::{Cell, Known, Slot, Value};
 use std::alloc::Global;
 
 /// The declaration that the name of a method reads as in a class, with so many arguments.

@@ -1,12 +1,12 @@
 //! Parameters by their identities.
 ghost use Rattle.std.specs.Prelude.{◌≡◌, find, option_copied};
 ghost use Rattle.mol_resolve_rules.specs.StaticTypes.{present_param};
-ghost use Rattle.mol_table.specs.Program.{same_id};
+ghost use Rattle.mol_table_rules.specs.Program.{same_id};
 
 use mol_base::Id;
 use mol_scope_classes::params_of;
 use mol_table::Table;
-use mol_values::Param;
+use mol_values_types::Param;
 
 /// The parameter of an identity, in the list of its method, if it stands there. The time is linear in the length of the list, which is at
 /// most 255 in a program that is read.

@@ -26,11 +26,11 @@ impl<'a> Model for ProgramIndex<'a> {
     ghost use Rattle.std.specs.Prelude.{◌≡◌};
     ghost use Rattle.mol_base.specs.contracts.ident.Id as id;
     ghost use Rattle.mol_spell_names.specs.program_index.KeptUses.{AreUses};
-    ghost use Rattle.mol_table.specs.Maps.{program_code};
-    ghost use Rattle.mol_table.specs.Program.{Program};
-    ghost use Rattle.mol_values.specs.contracts.cell.Cell as cell;
-    ghost use Rattle.mol_values.specs.contracts.known.Known as what;
-    ghost use Rattle.mol_values.specs.contracts.value.Value as value;
+    ghost use Rattle.mol_table_rules.specs.Program.{program_code};
+    ghost use Rattle.mol_table_rules.specs.Program.{Program};
+    ghost use Rattle.mol_values_types.specs.contracts.cell.Cell as cell;
+    ghost use Rattle.mol_values_types.specs.contracts.known.Known as what;
+    ghost use Rattle.mol_values_types.specs.contracts.value.Value as value;
 
     ghost Value = { Program };
 

@@ -3,7 +3,7 @@ ghost use Rattle.std.specs.Prelude.{◌≡◌, ◌++◌, ◌∷◌, IfOk};
 ghost use Rattle.jav_names.specs.DottedNames.{dot};
 ghost use Rattle.mol_spell_rules.specs.SimpleNames.{same_importable};
 ghost use Rattle.mol_spell_rules.specs.Writers.{full_of, simple_of};
-ghost use Rattle.mol_table.specs.Program.{same_id};
+ghost use Rattle.mol_table_rules.specs.Program.{same_id};
 ghost use Rattle.mol_spell_expr.specs.Importables.{importable_of};
 
 use jav_scope::simple_name;

@@ -4,8 +4,8 @@ ghost use Rattle.mol_spell_uses.specs.body_uses.PartUses.{value_uses};
 ghost use Rattle.mol_scope_classes.specs.class_members.Members.{member_entry};
 ghost use Rattle.mol_spell_names.specs.uses.CellUses.{member_uses, members_uses};
 ghost use Rattle.mol_spell_rules.specs.SimpleNames.{uses_at};
-ghost use Rattle.mol_table.specs.Program.{cell};
-ghost use Rattle.mol_values.specs.declared.known.Known.TheVariants as knowns;
+ghost use Rattle.mol_table_rules.specs.Program.{cell};
+ghost use Rattle.mol_values_types.specs.declared.known.Known.TheVariants as knowns;
 
 use crate::body_names::{AllSimple, BodyNames};
 use mol_base::{Id, OutOfMemory};
@@ -13,7 +13,7 @@ use mol_scope::MemberIndex;
 use mol_scope_classes::ClassMember;
 use mol_spell_places::Places;
 use mol_spell_uses::{BodyUses, Uses};
-use mol_values::{Cell, Known, Slot, Value};
+use mol_values_types::{Cell, Known, Slot, Value};
 use std::alloc::Global;
 
 /// The source file of a class. `Err` of its calls is want of memory.

@@ -8,7 +8,7 @@ use mol_base::{Id, OutOfMemory};
 use mol_scope::MemberIndex;
 use mol_scope_classes::ClassMembers;
 use mol_spell_uses::Uses;
-use mol_values::Slot;
+use mol_values_types::Slot;
 use std::alloc::Global;
 
 /// What the names in the source file of a class use where they are printed, in that order, beside members and variables. Files are written of

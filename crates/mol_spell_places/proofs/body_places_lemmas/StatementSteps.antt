@@ -12,15 +12,15 @@ use Rattle.mol_spell_places.specs.body_places.Statements.{else_spelling, if_spel
 use Rattle.mol_resolve_rules.specs.Locals.{Locals, at_end_of_block}
 use Rattle.mol_spell_expr.specs.SpelledStatements.{Spells, block_step, else_step, if_step, in_block, mapped, node_step, one_expr, spelled_block, stmt_step, then_next}
 use Rattle.mol_spell_expr.specs.Writers.{Writer}
-use Rattle.mol_values.specs.declared.iblock.IBlock.{IBlock, out-IBlock}
-use Rattle.mol_values.specs.declared.iblock.IElse.{IElse}
-use Rattle.mol_values.specs.declared.iblock.IElse.TheFolds.{fold-roll-IElse, fold-roll-IStmtNode, fold-roll-IStmt, fold_out-IBlock, fold_out-IIf, map-IStmtNode}
-use Rattle.mol_values.specs.declared.iblock.IElse.TheOpen.{IElse-F, IStmtNode-F}
-use Rattle.mol_values.specs.declared.iblock.IElse.TheVariants as elses
-use Rattle.mol_values.specs.declared.iblock.IElse.TheViews.{roll-IStmtNode}
-use Rattle.mol_values.specs.declared.iblock.IIf.{IIf, out-IIf}
-use Rattle.mol_values.specs.declared.iblock.IStmt.{IStmt}
-use Rattle.mol_values.specs.declared.iblock.IStmtNode.{IStmtNode}
+use Rattle.mol_values_types.specs.declared.iblock.IBlock.{IBlock, out-IBlock}
+use Rattle.mol_values_types.specs.declared.iblock.IElse.{IElse}
+use Rattle.mol_values_types.specs.declared.iblock.IElse.TheFolds.{fold-roll-IElse, fold-roll-IStmtNode, fold-roll-IStmt, fold_out-IBlock, fold_out-IIf, map-IStmtNode}
+use Rattle.mol_values_types.specs.declared.iblock.IElse.TheOpen.{IElse-F, IStmtNode-F}
+use Rattle.mol_values_types.specs.declared.iblock.IElse.TheVariants as elses
+use Rattle.mol_values_types.specs.declared.iblock.IElse.TheViews.{roll-IStmtNode}
+use Rattle.mol_values_types.specs.declared.iblock.IIf.{IIf, out-IIf}
+use Rattle.mol_values_types.specs.declared.iblock.IStmt.{IStmt}
+use Rattle.mol_values_types.specs.declared.iblock.IStmtNode.{IStmtNode}
 
 module _ (writer : Writer) where
   -- ---- statements

@@ -4,7 +4,7 @@ use Rattle.std.specs.List.{position, position_or_len}
 use Rattle.jav_names.specs.DottedNames.{Name}
 use Rattle.jav_names.specs.LookUps.{first_place}
 use Rattle.mol_spell_places.specs.scope_names.Params.{has_name, param_names}
-use Rattle.mol_values.specs.declared.param.Param.{Param}
+use Rattle.mol_values_types.specs.declared.param.Param.{Param}
 
 one-later : (place many : ℕ) → cond (nat_lt (1 + place) (suc many)) (Some (1 + place)) None
     ≡ option_map (λ k. suc k) (cond (nat_lt place many) (Some place) None)

@@ -5,7 +5,7 @@ use Rattle.std.specs.Option.{option_or}
 use Rattle.std.proofs.lemmas.List.{length-map, length-take-le, map_push, take_more}
 use Rattle.jav_names.specs.DottedNames.{Name}
 use Rattle.jav_names.specs.LookUps.{first_place}
-use Rattle.mol_values.specs.declared.param.Param.{Param}
+use Rattle.mol_values_types.specs.declared.param.Param.{Param}
 use Rattle.mol_spell_places.specs.scope_names.Params.{param_names, AreFirst}
 use Rattle.mol_spell_places.specs.scope_names.Places.{found_at}
 use Rattle.mol_spell_places.proofs.scope_names_lemmas.PlacesPushed.{first_place-push}

@@ -6,10 +6,10 @@ use Rattle.jav_tree.specs.declared.stmt.Stmt.{Stmt}
 use Rattle.jav_tree.specs.declared.stmt.StmtNode.{StmtNode}
 use Rattle.mol_spell_expr.specs.SpelledStatements.{Spells, each, else_step, node_step, block_step, if_step, stmt_step}
 use Rattle.mol_spell_expr.specs.Writers.{Writer}
-use Rattle.mol_values.specs.declared.iblock.IElse.{IElse, fold-IElse}
-use Rattle.mol_values.specs.declared.iblock.IIf.{IIf, fold-IIf}
-use Rattle.mol_values.specs.declared.iblock.IStmt.{IStmt, fold-IStmt}
-use Rattle.mol_values.specs.declared.iblock.IStmtNode.{IStmtNode, fold-IStmtNode}
+use Rattle.mol_values_types.specs.declared.iblock.IElse.{IElse, fold-IElse}
+use Rattle.mol_values_types.specs.declared.iblock.IIf.{IIf, fold-IIf}
+use Rattle.mol_values_types.specs.declared.iblock.IStmt.{IStmt, fold-IStmt}
+use Rattle.mol_values_types.specs.declared.iblock.IStmtNode.{IStmtNode, fold-IStmtNode}
 
 module _ (writer : Writer) where
   abbrev pub else_spelling : IElse → Spells Else

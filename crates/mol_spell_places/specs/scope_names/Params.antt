@@ -6,7 +6,7 @@ use Rattle.jav_names.specs.DottedNames.{Name, Names}
 use Rattle.jav_names.specs.LookUps.{first_place}
 use Rattle.mol_spell_places.specs.scope_names.Few.{few}
 use Rattle.mol_spell_places.specs.scope_names.Places.{found_at}
-use Rattle.mol_values.specs.declared.param.Param.{Param}
+use Rattle.mol_values_types.specs.declared.param.Param.{Param}
 
 abbrev pub param_names : List Param → Names
 param_names params = map (λ param. param.name) params

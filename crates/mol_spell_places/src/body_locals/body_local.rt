@@ -1,6 +1,6 @@
 //! A local variable of a body.
 use mol_base::Text;
-use mol_values::IType;
+use mol_values_types::IType;
 
 /// A local variable, by its name and its type.
 #[derive(Clone, Copy)]

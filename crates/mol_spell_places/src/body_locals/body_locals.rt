@@ -8,7 +8,7 @@ use crate::body_locals::body_local::BodyLocal;
 use crate::body_locals::entering::enter;
 use crate::scope_names::ScopeNames;
 use mol_base::{OutOfMemory, Text};
-use mol_values::IType;
+use mol_values_types::IType;
 use std::alloc::Global;
 use std::marker::Model;
 

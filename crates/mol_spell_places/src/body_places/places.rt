@@ -5,7 +5,7 @@ ghost use Rattle.mol_resolve_rules.specs.Locals.{no_locals};
 ghost use Rattle.mol_resolve_rules.specs.StaticTypes.{class_of_only_declaration};
 ghost use Rattle.mol_spell_expr.specs.SpelledExpressions.{param_name, reads_field, reads_method};
 ghost use Rattle.mol_spell_expr.specs.Writers.{Writer, is_hidden};
-ghost use Rattle.mol_table.specs.Program.{name_at, owner_at, package_at};
+ghost use Rattle.mol_table_rules.specs.Program.{name_at, owner_at, package_at};
 ghost use Rattle.mol_spell_expr.specs.Importables.{importable_of};
 
 use crate::body_locals::BodyLocals;

@@ -5,7 +5,7 @@ ghost use Rattle.jav_names.specs.LookUps.{last_place};
 ghost use Rattle.mol_spell_places.specs.scope_names.Few.{names_of};
 ghost use Rattle.mol_spell_places.specs.scope_names.Params.{has_name};
 
-use mol_values::Param;
+use mol_values_types::Param;
 
 /// So many names are gone through. Of more each is looked up.
 pub(crate) const FEW: usize = 8;

@@ -7,7 +7,7 @@ use crate::scope_names::few::{FEW, first_of};
 use crate::scope_names::nearest::{found_at, put_first};
 use indexmap::IndexMap;
 use mol_base::OutOfMemory;
-use mol_values::Param;
+use mol_values_types::Param;
 use std::alloc::Global;
 use std::marker::Model;
 

@@ -1,25 +1,25 @@
 -- What a body mentions is what its references name.
 use Rattle.std.proofs.Common.{ℕ, List, [], ◌∷◌, ◌++◌, map, Option, None, Some, refl, sym, subst, codes}
 use Rattle.std.specs.List.{flat_map}
-use Rattle.mol_table.specs.Mentions as mention
-use Rattle.mol_table.specs.Mentions.{Mention, named, joined, type_mentions, expr_mentions, exprs_mentions, maybe_mentions, arguments_mentions, let_mentions, start_mentions, body_mentions}
-use Rattle.mol_values.specs.declared.iblock.IBlock.{IBlock, fold-IBlock}
-use Rattle.mol_values.specs.declared.iblock.IBody.{IBody}
-use Rattle.mol_values.specs.declared.iblock.IDeclarator.{IDeclarator}
-use Rattle.mol_values.specs.declared.iblock.IElse.{IElse, fold-IElse}
-use Rattle.mol_values.specs.declared.iblock.IElse.TheFolds.{fold-roll-IElse, fold-roll-IStmtNode, fold-roll-IBlock, fold-roll-IIf, fold-roll-IStmt, map-IElse, map-IStmtNode, ind-IBlock}
-use Rattle.mol_values.specs.declared.iblock.IElse.TheOpen.{IElse-F, IStmtNode-F, IBlock-F, IIf-F, IStmt-F}
-use Rattle.mol_values.specs.declared.iblock.IElse.TheViews.{roll-IElse, roll-IStmtNode, roll-IBlock, roll-IIf, roll-IStmt}
-use Rattle.mol_values.specs.declared.iblock.IForStart.{IForStart}
-use Rattle.mol_values.specs.declared.iblock.IForStart.TheVariants as starts
-use Rattle.mol_values.specs.declared.iblock.IIf.{IIf, fold-IIf}
-use Rattle.mol_values.specs.declared.iblock.ILet.{ILet}
-use Rattle.mol_values.specs.declared.iblock.IStmt.{IStmt, fold-IStmt}
-use Rattle.mol_values.specs.declared.iblock.IStmtNode.{IStmtNode, fold-IStmtNode}
-use Rattle.mol_values.specs.declared.iexpr.IExpr.{IExpr}
-use Rattle.mol_values.specs.declared.param.Param.{Param}
-use Rattle.mol_values.specs.declared.value.Value.{Value}
-use Rattle.mol_values.specs.declared.value.Value.TheVariants as values
+use Rattle.mol_table_rules.specs.Mentions as mention
+use Rattle.mol_table_rules.specs.Mentions.{Mention, named, joined, type_mentions, expr_mentions, exprs_mentions, maybe_mentions, arguments_mentions, let_mentions, start_mentions, body_mentions}
+use Rattle.mol_values_types.specs.declared.iblock.IBlock.{IBlock, fold-IBlock}
+use Rattle.mol_values_types.specs.declared.iblock.IBody.{IBody}
+use Rattle.mol_values_types.specs.declared.iblock.IDeclarator.{IDeclarator}
+use Rattle.mol_values_types.specs.declared.iblock.IElse.{IElse, fold-IElse}
+use Rattle.mol_values_types.specs.declared.iblock.IElse.TheFolds.{fold-roll-IElse, fold-roll-IStmtNode, fold-roll-IBlock, fold-roll-IIf, fold-roll-IStmt, map-IElse, map-IStmtNode, ind-IBlock}
+use Rattle.mol_values_types.specs.declared.iblock.IElse.TheOpen.{IElse-F, IStmtNode-F, IBlock-F, IIf-F, IStmt-F}
+use Rattle.mol_values_types.specs.declared.iblock.IElse.TheViews.{roll-IElse, roll-IStmtNode, roll-IBlock, roll-IIf, roll-IStmt}
+use Rattle.mol_values_types.specs.declared.iblock.IForStart.{IForStart}
+use Rattle.mol_values_types.specs.declared.iblock.IForStart.TheVariants as starts
+use Rattle.mol_values_types.specs.declared.iblock.IIf.{IIf, fold-IIf}
+use Rattle.mol_values_types.specs.declared.iblock.ILet.{ILet}
+use Rattle.mol_values_types.specs.declared.iblock.IStmt.{IStmt, fold-IStmt}
+use Rattle.mol_values_types.specs.declared.iblock.IStmtNode.{IStmtNode, fold-IStmtNode}
+use Rattle.mol_values_types.specs.declared.iexpr.IExpr.{IExpr}
+use Rattle.mol_values_types.specs.declared.param.Param.{Param}
+use Rattle.mol_values_types.specs.declared.value.Value.{Value}
+use Rattle.mol_values_types.specs.declared.value.Value.TheVariants as values
 use Rattle.mol_spell_rules.specs.references.Named.{NameTheSame, printed_mentions, ReferencesName}
 use Rattle.mol_spell_rules.specs.references.References as reference
 use Rattle.mol_spell_rules.specs.references.References.{default_target, method_target, outside_target, References, type_references, expr_references, exprs_references, maybe_references, arguments_references, let_references, start_references, else_references, node_references, block_references, if_references, statement_references, body_references, references}

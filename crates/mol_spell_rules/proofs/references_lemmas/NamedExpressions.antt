@@ -1,18 +1,18 @@
 -- What an expression mentions is what its references name.
 use Rattle.std.proofs.Common.{◌≡◌, ℕ, ◌+◌, Bool, List, [], ◌∷◌, ◌++◌, map, refl, sym, ap, subst, arith, if◌then◌else◌, codes, Option, None, Some}
 use Rattle.mol_base.specs.declared.ident.Id.{Id}
-use Rattle.mol_table.specs.Mentions as mention
-use Rattle.mol_table.specs.Mentions.{Mention, Role, named, joined, type_mentions, expr_mentions, exprs_mentions, arguments_mentions, maybe_mentions}
-use Rattle.mol_table.specs.Program.{same_id}
-use Rattle.mol_values.specs.declared.iexpr.Argument.{Argument, fold-Argument}
-use Rattle.mol_values.specs.declared.iexpr.IExpr.{IExpr}
-use Rattle.mol_values.specs.declared.iexpr.IExpr.TheOpen.{IExpr-F}
-use Rattle.mol_values.specs.declared.iexpr.IExpr.TheFolds.{fold-roll-IExpr, fold-roll-Argument, ind-IExpr, map-IExpr}
-use Rattle.mol_values.specs.declared.iexpr.IExpr.TheViews.{roll-IExpr, roll-Argument}
-use Rattle.mol_values.specs.declared.itype.IType.{IType}
-use Rattle.mol_values.specs.declared.itype.IType.TheOpen.{IType-F}
-use Rattle.mol_values.specs.declared.itype.IType.TheFolds.{fold-roll-IType, ind-IType, map-IType}
-use Rattle.mol_values.specs.declared.itype.IType.TheViews.{roll-IType}
+use Rattle.mol_table_rules.specs.Mentions as mention
+use Rattle.mol_table_rules.specs.Mentions.{Mention, Role, named, joined, type_mentions, expr_mentions, exprs_mentions, arguments_mentions, maybe_mentions}
+use Rattle.mol_table_rules.specs.Program.{same_id}
+use Rattle.mol_values_types.specs.declared.iexpr.Argument.{Argument, fold-Argument}
+use Rattle.mol_values_types.specs.declared.iexpr.IExpr.{IExpr}
+use Rattle.mol_values_types.specs.declared.iexpr.IExpr.TheOpen.{IExpr-F}
+use Rattle.mol_values_types.specs.declared.iexpr.IExpr.TheFolds.{fold-roll-IExpr, fold-roll-Argument, ind-IExpr, map-IExpr}
+use Rattle.mol_values_types.specs.declared.iexpr.IExpr.TheViews.{roll-IExpr, roll-Argument}
+use Rattle.mol_values_types.specs.declared.itype.IType.{IType}
+use Rattle.mol_values_types.specs.declared.itype.IType.TheOpen.{IType-F}
+use Rattle.mol_values_types.specs.declared.itype.IType.TheFolds.{fold-roll-IType, ind-IType, map-IType}
+use Rattle.mol_values_types.specs.declared.itype.IType.TheViews.{roll-IType}
 use Rattle.jav_names.specs.TypeTexts.{imported_text}
 use Rattle.mol_spell_rules.specs.references.Named.{is_named, times, NameTheSame}
 use Rattle.mol_spell_rules.specs.references.References as reference

@@ -2,14 +2,14 @@
 use Rattle.std.specs.Prelude.{◌≡◌, ℕ, ◌+◌, Bool, false, List, [], ◌∷◌, Option, if◌then◌else◌}
 use Rattle.std.specs.List.{flat_map}
 use Rattle.mol_base.specs.declared.ident.Id.{Id}
-use Rattle.mol_table.specs.Mentions.{Mention, type_mentions, expr_mentions, body_mentions, mentions}
-use Rattle.mol_table.specs.Program.{same_id}
-use Rattle.mol_values.specs.declared.iblock.IBody.{IBody}
-use Rattle.mol_values.specs.declared.iexpr.IExpr.{IExpr}
-use Rattle.mol_values.specs.declared.itype.IType.{IType}
-use Rattle.mol_values.specs.declared.param.Param.{Param}
-use Rattle.mol_values.specs.declared.value.Value.{Value}
-use Rattle.mol_values.specs.declared.value.Value.TheVariants as values
+use Rattle.mol_table_rules.specs.Mentions.{Mention, type_mentions, expr_mentions, body_mentions, mentions}
+use Rattle.mol_table_rules.specs.Program.{same_id}
+use Rattle.mol_values_types.specs.declared.iblock.IBody.{IBody}
+use Rattle.mol_values_types.specs.declared.iexpr.IExpr.{IExpr}
+use Rattle.mol_values_types.specs.declared.itype.IType.{IType}
+use Rattle.mol_values_types.specs.declared.param.Param.{Param}
+use Rattle.mol_values_types.specs.declared.value.Value.{Value}
+use Rattle.mol_values_types.specs.declared.value.Value.TheVariants as values
 use Rattle.mol_spell_rules.specs.references.References.{Target, class_target, field_target, method_target, param_target, default_target, local_target, outside_target, References, type_references, expr_references, body_references, references}
 
 -- the identity that a name stands for, or whose default constructor it stands for

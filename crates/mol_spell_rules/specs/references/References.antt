@@ -4,25 +4,25 @@
 use Rattle.std.specs.Prelude.{ℕ, List, [], ◌∷◌, ◌++◌, Option, None, Some, codes}
 use Rattle.std.specs.List.{flat_map}
 use Rattle.mol_base.specs.declared.ident.Id.{Id}
-use Rattle.mol_values.specs.declared.iblock.IBlock.{IBlock, fold-IBlock}
-use Rattle.mol_values.specs.declared.iblock.IBody.{IBody}
-use Rattle.mol_values.specs.declared.iblock.IDeclarator.{IDeclarator}
-use Rattle.mol_values.specs.declared.iblock.IElse.{IElse, fold-IElse}
-use Rattle.mol_values.specs.declared.iblock.IElse.TheOpen.{IElse-F, IStmtNode-F, IBlock-F, IIf-F, IStmt-F}
-use Rattle.mol_values.specs.declared.iblock.IForStart.{IForStart}
-use Rattle.mol_values.specs.declared.iblock.IForStart.TheVariants as starts
-use Rattle.mol_values.specs.declared.iblock.IIf.{IIf, fold-IIf}
-use Rattle.mol_values.specs.declared.iblock.ILet.{ILet}
-use Rattle.mol_values.specs.declared.iblock.IStmt.{IStmt, fold-IStmt}
-use Rattle.mol_values.specs.declared.iblock.IStmtNode.{IStmtNode, fold-IStmtNode}
-use Rattle.mol_values.specs.declared.iexpr.Argument.{Argument, fold-Argument}
-use Rattle.mol_values.specs.declared.iexpr.IExpr.{IExpr, fold-IExpr}
-use Rattle.mol_values.specs.declared.iexpr.IExpr.TheOpen.{IExpr-F, Argument-F}
-use Rattle.mol_values.specs.declared.itype.IType.{IType, fold-IType}
-use Rattle.mol_values.specs.declared.itype.IType.TheOpen.{IType-F}
-use Rattle.mol_values.specs.declared.param.Param.{Param}
-use Rattle.mol_values.specs.declared.value.Value.{Value}
-use Rattle.mol_values.specs.declared.value.Value.TheVariants as values
+use Rattle.mol_values_types.specs.declared.iblock.IBlock.{IBlock, fold-IBlock}
+use Rattle.mol_values_types.specs.declared.iblock.IBody.{IBody}
+use Rattle.mol_values_types.specs.declared.iblock.IDeclarator.{IDeclarator}
+use Rattle.mol_values_types.specs.declared.iblock.IElse.{IElse, fold-IElse}
+use Rattle.mol_values_types.specs.declared.iblock.IElse.TheOpen.{IElse-F, IStmtNode-F, IBlock-F, IIf-F, IStmt-F}
+use Rattle.mol_values_types.specs.declared.iblock.IForStart.{IForStart}
+use Rattle.mol_values_types.specs.declared.iblock.IForStart.TheVariants as starts
+use Rattle.mol_values_types.specs.declared.iblock.IIf.{IIf, fold-IIf}
+use Rattle.mol_values_types.specs.declared.iblock.ILet.{ILet}
+use Rattle.mol_values_types.specs.declared.iblock.IStmt.{IStmt, fold-IStmt}
+use Rattle.mol_values_types.specs.declared.iblock.IStmtNode.{IStmtNode, fold-IStmtNode}
+use Rattle.mol_values_types.specs.declared.iexpr.Argument.{Argument, fold-Argument}
+use Rattle.mol_values_types.specs.declared.iexpr.IExpr.{IExpr, fold-IExpr}
+use Rattle.mol_values_types.specs.declared.iexpr.IExpr.TheOpen.{IExpr-F, Argument-F}
+use Rattle.mol_values_types.specs.declared.itype.IType.{IType, fold-IType}
+use Rattle.mol_values_types.specs.declared.itype.IType.TheOpen.{IType-F}
+use Rattle.mol_values_types.specs.declared.param.Param.{Param}
+use Rattle.mol_values_types.specs.declared.value.Value.{Value}
+use Rattle.mol_values_types.specs.declared.value.Value.TheVariants as values
 use Rattle.jav_names.specs.TypeTexts.{imported_text}
 
 -- ---- what a name is the name of

@@ -5,23 +5,23 @@ use Rattle.mol_spell_uses.specs.body_uses.PartUses.{declared_uses}
 use Rattle.jav_names.specs.DottedNames.{Name}
 use Rattle.mol_resolve_rules.specs.Locals.{Locals}
 use Rattle.mol_spell_rules.specs.SpelledTypes.{SpelledType, spelled_type, type_step}
-use Rattle.mol_spell_rules.specs.Writers.{Use, Writer, hides_none, importable_use, outside_import, program_class, type_asked, written_use}
+use Rattle.mol_spell_rules.specs.Writers.{Use, Writer, hides_none, importable_use, outside_import, program_class, written_use}
 use Rattle.mol_spell_uses.specs.uses.Uses.{uses_of}
-use Rattle.mol_values.specs.declared.itype.IType.{IType}
-use Rattle.mol_values.specs.declared.itype.IType.TheFolds.{fold-roll-IType, map-IType}
-use Rattle.mol_values.specs.declared.itype.IType.TheOpen.{IType-F}
-use Rattle.mol_values.specs.declared.itype.IType.TheVariants as kinds
-use Rattle.mol_values.specs.declared.itype.IType.TheViews.{roll-IType}
+use Rattle.mol_values_types.specs.declared.itype.IType.{IType}
+use Rattle.mol_values_types.specs.declared.itype.IType.TheFolds.{fold-roll-IType, map-IType}
+use Rattle.mol_values_types.specs.declared.itype.IType.TheOpen.{IType-F}
+use Rattle.mol_values_types.specs.declared.itype.IType.TheVariants as kinds
+use Rattle.mol_values_types.specs.declared.itype.IType.TheViews.{roll-IType}
 
 module _ (writer : Writer) (locals : Locals Id) (type : IType) where
   abbrev Uses : List Use → Type 0
   Uses uses = declared_uses writer locals type ≡ uses
 
   abbrev spelled : IType → SpelledType
-  spelled = spelled_type writer hides_none locals (λ text. type_asked text)
+  spelled = spelled_type writer hides_none locals
 
   abbrev step : IType-F SpelledType → SpelledType
-  step = type_step writer hides_none locals (λ text. type_asked text)
+  step = type_step writer hides_none locals
 
   by_kind : (x : IType-F IType) (uses : List Use) → type ≡ roll-IType x → uses_of (step (map-IType _ _ spelled x)).references ≡ uses
       → Uses uses

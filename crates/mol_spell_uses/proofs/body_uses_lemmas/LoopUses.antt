@@ -15,9 +15,9 @@ use Rattle.mol_spell_rules.specs.Writers.{Use, Writer}
 use Rattle.mol_spell_uses.proofs.uses_lemmas.ModeFree.{uses-append}
 use Rattle.mol_spell_uses.proofs.uses_lemmas.UsesNodes.{uses-all}
 use Rattle.mol_spell_uses.specs.uses.Uses.{all_uses, expr_uses, uses_of}
-use Rattle.mol_values.specs.declared.iblock.IBlock.{IBlock}
-use Rattle.mol_values.specs.declared.iexpr.IExpr.{IExpr}
-use Rattle.mol_values.specs.declared.itype.IType.{IType}
+use Rattle.mol_values_types.specs.declared.iblock.IBlock.{IBlock}
+use Rattle.mol_values_types.specs.declared.iexpr.IExpr.{IExpr}
+use Rattle.mol_values_types.specs.declared.itype.IType.{IType}
 
 module _ (writer : Writer) (locals : Locals Id) where
   -- ---- the test and the steps

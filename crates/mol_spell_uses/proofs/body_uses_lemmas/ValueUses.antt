@@ -10,12 +10,12 @@ use Rattle.mol_spell_rules.specs.UnitCells.{first_value_references, type_referen
 use Rattle.mol_spell_rules.specs.Writers.{Use, Writer}
 use Rattle.mol_spell_uses.proofs.uses_lemmas.ModeFree.{uses-append}
 use Rattle.mol_spell_uses.specs.uses.Uses.{uses_of}
-use Rattle.mol_values.specs.declared.iblock.IBody.{IBody}
-use Rattle.mol_values.specs.declared.iexpr.IExpr.{IExpr}
-use Rattle.mol_values.specs.declared.itype.IType.{IType}
-use Rattle.mol_values.specs.declared.param.Param.{Param}
-use Rattle.mol_values.specs.declared.value.Value.{Value}
-use Rattle.mol_values.specs.declared.value.Value.TheVariants as values
+use Rattle.mol_values_types.specs.declared.iblock.IBody.{IBody}
+use Rattle.mol_values_types.specs.declared.iexpr.IExpr.{IExpr}
+use Rattle.mol_values_types.specs.declared.itype.IType.{IType}
+use Rattle.mol_values_types.specs.declared.param.Param.{Param}
+use Rattle.mol_values_types.specs.declared.value.Value.{Value}
+use Rattle.mol_values_types.specs.declared.value.Value.TheVariants as values
 
 module _ (writer : Writer) where
   params-used : (params : List Param) → uses_of (flat_map (λ (param : Param). type_references writer param.ty) params)

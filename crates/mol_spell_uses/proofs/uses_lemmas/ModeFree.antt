@@ -9,11 +9,11 @@ use Rattle.mol_spell_rules.proofs.SpelledEquations.{rolled, spelled_argument}
 use Rattle.mol_spell_rules.specs.SpelledExpressions.{MemberForm, by_name, on_this, on_class, SpelledExpr, after, field_reference, own_form, name_of, plain, references_step, spelled_expr, static_form}
 use Rattle.mol_spell_rules.specs.Writers.{Asked, Reference, Use, Writer, field_asked}
 use Rattle.mol_spell_uses.specs.uses.Uses.{uses_of, form_uses}
-use Rattle.mol_values.specs.declared.iexpr.Argument.{Argument}
-use Rattle.mol_values.specs.declared.iexpr.IExpr.{IExpr}
-use Rattle.mol_values.specs.declared.iexpr.IExpr.TheFolds.{ind-IExpr, map-IExpr}
-use Rattle.mol_values.specs.declared.iexpr.IExpr.TheOpen.{IExpr-F}
-use Rattle.mol_values.specs.declared.iexpr.IExpr.TheViews.{roll-IExpr}
+use Rattle.mol_values_types.specs.declared.iexpr.Argument.{Argument}
+use Rattle.mol_values_types.specs.declared.iexpr.IExpr.{IExpr}
+use Rattle.mol_values_types.specs.declared.iexpr.IExpr.TheFolds.{ind-IExpr, map-IExpr}
+use Rattle.mol_values_types.specs.declared.iexpr.IExpr.TheOpen.{IExpr-F}
+use Rattle.mol_values_types.specs.declared.iexpr.IExpr.TheViews.{roll-IExpr}
 
 -- ---- lists
 

@@ -9,18 +9,17 @@ use Rattle.mol_resolve_rules.specs.Locals.{Locals}
 use Rattle.mol_resolve_rules.specs.ReadTrees.{before}
 use Rattle.mol_resolve_rules.specs.StaticTypes.{class_of_only_declaration}
 use Rattle.mol_spell_rules.proofs.SpelledEquations.{rolled, spelled_argument}
-use Rattle.mol_spell_rules.specs.SpelledExpressions.{SpelledExpr, MemberForm, by_name, on_this, on_class, after, argument_step, call_form, call_reference, constructor_reference, created_type, each_alone, expr_step, field_reference, hides, is_this_step, name_of, own_form, plain, reads_field, reads_method, references_step, spelled_expr, static_call_form, static_form, type_here}
-use Rattle.mol_spell_rules.specs.Writers.{Reference, Use, Writer, constructor_asked, field_asked, index_asked, method_asked, outside_import, program_class, type_asked, written_use}
+use Rattle.mol_spell_rules.specs.SpelledExpressions.{SpelledExpr, MemberForm, by_name, on_this, on_class, after, argument_step, call_form, call_reference, constructor_reference, each_alone, expr_step, field_reference, is_this_step, name_of, own_form, plain, reads_field, reads_method, references_step, spelled_expr, static_call_form, static_form, type_here}
+use Rattle.mol_spell_rules.specs.Writers.{Reference, Use, Writer, field_asked, index_asked, method_asked, outside_import, program_class, written_use}
 use Rattle.mol_spell_uses.proofs.uses_lemmas.ModeFree.{field-uses, mode-free, uses-after, uses-append}
-use Rattle.mol_spell_uses.proofs.uses_lemmas.TypesUsed.{asked-alike}
 use Rattle.mol_spell_uses.specs.uses.Uses.{all_uses, argument_uses, created_uses, expr_uses, form_uses, named_use, type_uses, uses_of}
-use Rattle.mol_values.specs.declared.iexpr.Argument.{Argument}
-use Rattle.mol_values.specs.declared.iexpr.IExpr.{IExpr}
-use Rattle.mol_values.specs.declared.iexpr.IExpr.TheFolds.{fold-roll-Argument, ind-IExpr, map-IExpr}
-use Rattle.mol_values.specs.declared.iexpr.IExpr.TheOpen.{IExpr-F}
-use Rattle.mol_values.specs.declared.iexpr.IExpr.TheVariants as exprs
-use Rattle.mol_values.specs.declared.iexpr.IExpr.TheViews.{roll-IExpr}
-use Rattle.mol_values.specs.declared.itype.IType.{IType}
+use Rattle.mol_values_types.specs.declared.iexpr.Argument.{Argument}
+use Rattle.mol_values_types.specs.declared.iexpr.IExpr.{IExpr}
+use Rattle.mol_values_types.specs.declared.iexpr.IExpr.TheFolds.{fold-roll-Argument, ind-IExpr, map-IExpr}
+use Rattle.mol_values_types.specs.declared.iexpr.IExpr.TheOpen.{IExpr-F}
+use Rattle.mol_values_types.specs.declared.iexpr.IExpr.TheVariants as exprs
+use Rattle.mol_values_types.specs.declared.iexpr.IExpr.TheViews.{roll-IExpr}
+use Rattle.mol_values_types.specs.declared.itype.IType.{IType}
 
 module _ (writer : Writer) (locals : Locals Id) where
   abbrev spelled : IExpr → SpelledExpr
@@ -109,11 +108,8 @@ module _ (writer : Writer) (locals : Locals Id) (e : IExpr) where
   pub uses-NewOutside : (type : IType) (args : List IExpr) → e ≡ exprs.NewOutside type args
       → Uses (type_uses writer locals type ++ all_uses writer locals args)
   uses-NewOutside type args is = by_node (IExpr-F.NewOutside type args) _ (is ∙ sym (exprs.rolls-NewOutside type args))
-      (uses-append (created_type writer locals (length (map (spelled_expr writer locals) args)) type).references
-      (each_alone writer locals (map (spelled_expr writer locals) args))
-      ∙ (λ i. asked-alike writer (hides writer locals) locals
-      (λ text. constructor_asked text (length (map (spelled_expr writer locals) args))) (λ text. type_asked text) type i
-      ++ uses-all writer locals args i))
+      (uses-append (type_here writer locals type).references (each_alone writer locals (map (spelled_expr writer locals) args))
+      ∙ ap (λ us. type_uses writer locals type ++ us) (uses-all writer locals args))
 
   -- ---- what uses nothing
 

@@ -7,11 +7,11 @@ use Rattle.mol_spell_rules.specs.SpelledStatements.{declared_type, spelled_body}
 use Rattle.mol_spell_rules.specs.UnitCells.{references_in}
 use Rattle.mol_spell_rules.specs.Writers.{Use, Writer}
 use Rattle.mol_spell_uses.specs.uses.Uses.{expr_uses, uses_of}
-use Rattle.mol_values.specs.declared.iblock.IBody.{IBody}
-use Rattle.mol_values.specs.declared.iexpr.IExpr.{IExpr}
-use Rattle.mol_values.specs.declared.itype.IType.{IType}
-use Rattle.mol_values.specs.declared.param.Param.{Param}
-use Rattle.mol_values.specs.declared.value.Value.{Value}
+use Rattle.mol_values_types.specs.declared.iblock.IBody.{IBody}
+use Rattle.mol_values_types.specs.declared.iexpr.IExpr.{IExpr}
+use Rattle.mol_values_types.specs.declared.itype.IType.{IType}
+use Rattle.mol_values_types.specs.declared.param.Param.{Param}
+use Rattle.mol_values_types.specs.declared.value.Value.{Value}
 
 module _ (writer : Writer) (locals : Locals Id) where
   -- the type of a declaration

@@ -5,10 +5,10 @@ use Rattle.mol_base.specs.declared.ident.Id.{Id}
 use Rattle.mol_resolve_rules.specs.Locals.{Locals}
 use Rattle.mol_spell_rules.specs.SpelledExpressions.{MemberForm, by_name, on_this, on_class, alone, hides, spelled_expr}
 use Rattle.mol_spell_rules.specs.SpelledTypes.{spelled_type}
-use Rattle.mol_spell_rules.specs.Writers.{Importable, program_class, Reference, Use, Writer, type_asked, use_of}
-use Rattle.mol_values.specs.declared.iexpr.Argument.{Argument}
-use Rattle.mol_values.specs.declared.iexpr.IExpr.{IExpr}
-use Rattle.mol_values.specs.declared.itype.IType.{IType}
+use Rattle.mol_spell_rules.specs.Writers.{Importable, program_class, Reference, Use, Writer, use_of}
+use Rattle.mol_values_types.specs.declared.iexpr.Argument.{Argument}
+use Rattle.mol_values_types.specs.declared.iexpr.IExpr.{IExpr}
+use Rattle.mol_values_types.specs.declared.itype.IType.{IType}
 
 abbrev pub uses_of : List Reference → List Use
 uses_of references = filter_map (λ (reference : Reference). reference.uses) references
@@ -25,7 +25,7 @@ module _ (writer : Writer) (locals : Locals Id) where
   argument_uses args = flat_map (λ (argument : Argument). expr_uses argument.value) args
 
   abbrev pub type_uses : IType → List Use
-  type_uses type = uses_of (spelled_type writer (hides writer locals) locals (λ text. type_asked text) type).references
+  type_uses type = uses_of (spelled_type writer (hides writer locals) locals type).references
 
   -- of what may be imported, in an expression
   abbrev pub named_use : Importable → List Use

@@ -9,7 +9,7 @@ use crate::body_uses::body_uses::BodyUses;
 use crate::uses::Uses;
 use mol_base::OutOfMemory;
 use mol_spell_places::{BodyLocals, Places};
-use mol_values::{IBlock, IStmt, IStmtNode};
+use mol_values_types::{IBlock, IStmt, IStmtNode};
 
 impl<P: Places> BodyUses<'_, P> {
     /// Adds what a block uses. What it declares is in scope up to its end.

@@ -5,7 +5,7 @@ ghost use Rattle.mol_spell_uses.specs.body_uses.PartUses.{body_uses};
 use crate::uses::Uses;
 use mol_base::OutOfMemory;
 use mol_spell_places::{BodyLocals, Places};
-use mol_values::IBody;
+use mol_values_types::IBody;
 use std::alloc::Global;
 
 /// Where bodies of a program are written. `Err` of its calls is want of memory.

@@ -9,7 +9,7 @@ use crate::body_uses::body_uses::BodyUses;
 use crate::uses::Uses;
 use mol_base::OutOfMemory;
 use mol_spell_places::{BodyLocals, Places};
-use mol_values::{IBlock, IElse, IExpr, IIf};
+use mol_values_types::{IBlock, IElse, IExpr, IIf};
 
 impl<P: Places> BodyUses<'_, P> {
     /// Adds what an `if` uses.

@@ -10,7 +10,7 @@ use crate::body_uses::types::add_declared_type;
 use crate::uses::Uses;
 use mol_base::OutOfMemory;
 use mol_spell_places::{BodyLocals, Places};
-use mol_values::{IDeclarator, IForStart, ILet, IType};
+use mol_values_types::{IDeclarator, IForStart, ILet, IType};
 
 impl<P: Places> BodyUses<'_, P> {
     /// Adds what a declaration of variables of one type uses.

@@ -9,7 +9,7 @@ use crate::body_uses::types::add_declared_type;
 use crate::uses::{ExprUses, Uses};
 use mol_base::OutOfMemory;
 use mol_spell_places::{BodyLocals, InBody, Places};
-use mol_values::{Argument, IExpr, IType};
+use mol_values_types::{Argument, IExpr, IType};
 
 impl<P: Places> BodyUses<'_, P> {
     /// Adds what an expression uses.

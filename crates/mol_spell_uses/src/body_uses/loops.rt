@@ -10,7 +10,7 @@ use crate::body_uses::body_uses::BodyUses;
 use crate::uses::Uses;
 use mol_base::{OutOfMemory, Text};
 use mol_spell_places::{BodyLocals, Places};
-use mol_values::{IBlock, IExpr, IForStart, IType};
+use mol_values_types::{IBlock, IExpr, IForStart, IType};
 
 impl<P: Places> BodyUses<'_, P> {
     /// Adds what a `for` with a start, a test and steps uses. What its start declares is in scope up to its end.

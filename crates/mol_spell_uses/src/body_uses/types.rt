@@ -7,7 +7,7 @@ ghost use Rattle.mol_spell_rules.specs.Writers.{Writer};
 
 use crate::uses::Uses;
 use mol_base::OutOfMemory;
-use mol_values::IType;
+use mol_values_types::IType;
 
 /// Adds what the type of a declaration uses, or the type after `extends`, wherever it is printed: no variable hides the name of a class
 /// there (JLS 6.4.2). `Err` is want of memory.

@@ -2,14 +2,14 @@
 ghost use Rattle.std.specs.Prelude.{◌≡◌, ◌++◌, OnOk, Some, option_copied};
 ghost use Rattle.mol_spell_uses.specs.body_uses.PartUses.{first_value_uses, params_uses, value_uses};
 ghost use Rattle.mol_spell_rules.specs.Writers.{Writer};
-ghost use Rattle.mol_values.specs.declared.value.Value.TheVariants as values;
+ghost use Rattle.mol_values_types.specs.declared.value.Value.TheVariants as values;
 
 use crate::body_uses::body_uses::BodyUses;
 use crate::body_uses::types::add_declared_type;
 use crate::uses::Uses;
 use mol_base::OutOfMemory;
 use mol_spell_places::{BodyLocals, Places};
-use mol_values::{IBody, IExpr, IType, Param, Value};
+use mol_values_types::{IBody, IExpr, IType, Param, Value};
 
 impl<P: Places> BodyUses<'_, P> {
     /// Adds what the names in the value of a cell use, in the order in which they print; nothing where the cell has no value. The time is

@@ -7,7 +7,7 @@ ghost use Rattle.mol_spell_uses.specs.uses.Uses.{all_uses, argument_uses, create
 use crate::uses::uses::Uses;
 use mol_base::{Id, OutOfMemory};
 use mol_spell_expr::Names;
-use mol_values::{Argument, IExpr, IType};
+use mol_values_types::{Argument, IExpr, IType};
 
 /// Where expressions of a program are written. `Err` of its calls is want of memory.
 #[derive(Clone, Copy)]

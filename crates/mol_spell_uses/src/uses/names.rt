@@ -10,7 +10,7 @@ use crate::uses::uses::Uses;
 use jav_scope::simple_name;
 use mol_base::{Id, OutOfMemory, Text, number_of};
 use mol_spell_expr::Names;
-use mol_values::IType;
+use mol_values_types::IType;
 
 impl<N: Names> ExprUses<'_, N> {
     /// Adds what a static field uses: its class, where it is printed after it.

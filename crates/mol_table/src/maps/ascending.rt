@@ -8,17 +8,17 @@ ghost use Rattle.std.specs.declared.cmp.Ordering.TheVariants.{Less};
 ghost use Rattle.indexmap.specs.IndexMap.{keys};
 ghost use Rattle.mol_base.specs.Order.{id_cmp};
 ghost use Rattle.mol_base.specs.declared.ident.Id.{Id as Identity};
-ghost use Rattle.mol_table.specs.Identities.{IsAscending, AscendsTo};
+ghost use Rattle.mol_table_rules.specs.Identities.{IsAscending, AscendsTo};
 ghost use Rattle.mol_table.specs.Maps.{knowns_of, program_in, IsOrdered};
 
 use crate::maps::Maps;
 use indexmap::IndexMap;
 use mol_base::{Id, OutOfMemory};
-use mol_values::Known;
+use mol_values_types::Known;
 
 impl Maps {
     /// Room to sort all that is known after so many identities more.
-    pub fn room_to_sort(&self, more: usize) -> Result<Vec<Id>, OutOfMemory>
+    pub(crate) fn room_to_sort(&self, more: usize) -> Result<Vec<Id>, OutOfMemory>
         ensures { IfOk result (λ room. length self.now.known.entries + more ≤ vec_capacity room) }
     {
         let Some(all) = self.known.len().checked_add(more) else {
@@ -31,7 +31,7 @@ impl Maps {
     /// to sort them all. The time is linear in the rest where that ascends too; else it is that of sorting
     /// the rest together with those of the first ones that come after the least of it. Those that come
     /// before it are not touched.
-    pub fn arrange(&mut self, from: usize, mut room: Vec<Id>)
+    pub(crate) fn arrange(&mut self, from: usize, mut room: Vec<Id>)
         requires first { AscendsTo from (keys self.old.known) }
         requires within { from ≤ length self.old.known.entries }
         requires room { (length self.old.known.entries ≤ from) ⊎ (length self.old.known.entries ≤ vec_capacity room) }

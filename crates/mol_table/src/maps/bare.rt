@@ -2,14 +2,14 @@
 ghost use Rattle.std.specs.Prelude.{◌≡◌, ◌++◌, ◌∷◌, [], List, IfOk, OnOk, Some, cond};
 ghost use Rattle.mol_table.specs.Bare.{bare_of, bare_by, lesser};
 ghost use Rattle.mol_table.specs.Maps.{program_in};
-ghost use Rattle.mol_table.specs.Program.{owner_at, same_id};
-ghost use Rattle.mol_table.specs.Tidy.{bare_constructor};
+ghost use Rattle.mol_table_rules.specs.Program.{owner_at, same_id};
+ghost use Rattle.mol_table_rules.specs.Tidy.{bare_constructor};
 ghost use Rattle.mol_table.specs.Tidying.{bare_in};
 
 use crate::maps::Maps;
 use indexmap::IndexMap;
 use mol_base::{Id, OutOfMemory};
-use mol_values::{Cell, Known, MethodKind, Slot, Value};
+use mol_values_types::{Cell, Known, MethodKind, Slot, Value};
 use std::alloc::Global;
 
 impl Maps {
@@ -64,7 +64,7 @@ impl Maps {
 
     /// Of each class that has one, its least living constructor without parameters. The time is that of
     /// some look-ups for each identity.
-    pub fn bare_constructors(&self, alloc: Global) -> Result<IndexMap<Id, Id>, OutOfMemory>
+    pub(crate) fn bare_constructors(&self, alloc: Global) -> Result<IndexMap<Id, Id>, OutOfMemory>
         ensures { IfOk result (λ index. (class : Id) →
             bare_in index.entries class ≡ bare_constructor (program_in self.now) class) }
     {

@@ -1,19 +1,20 @@
 //! What a table does to its maps: their rules hold before and after.
 ghost use Rattle.std.specs.Prelude.{◌≡◌, Some, IsSome, IsOk, IfSome, OnOk, OnErr};
 ghost use Rattle.std.specs.FinMap as map;
-ghost use Rattle.mol_table.specs.Maps.{program_in, Stands, AreKnown, values_in, names_in, names_among, names_of};
-ghost use Rattle.mol_table.specs.Program.{params_in};
-ghost use Rattle.mol_table.specs.Rules.{IsProgram};
-ghost use Rattle.mol_table.specs.Writes.{with_value, with_entities, AreNew};
+ghost use Rattle.mol_table.specs.Maps.{program_in, Stands};
+ghost use Rattle.mol_table_rules.specs.Room.{AreKnown, values_in, names_in, names_among, names_of};
+ghost use Rattle.mol_table_rules.specs.Program.{params_in};
+ghost use Rattle.mol_table_rules.specs.Rules.{IsProgram};
+ghost use Rattle.mol_table_rules.specs.Writes.{with_value, with_entities, AreNew};
 
-use crate::NewEntity;
 use crate::maps::Maps;
 use mol_base::OutOfMemory;
-use mol_values::{Cell, Value};
+use mol_table_rules::NewEntity;
+use mol_values_types::{Cell, Value};
 
 impl Maps {
     /// Gives a cell that is there another value, where the rules hold afterwards.
-    pub fn set(&mut self, cell: Cell, value: Value) -> Result<(), OutOfMemory>
+    pub(crate) fn set(&mut self, cell: Cell, value: Value) -> Result<(), OutOfMemory>
         requires stands { Stands self.old }
         requires there { IsSome (map.get (program_in self.old).cells cell) }
         requires rules { IsProgram (with_value (program_in self.old) cell value) }
@@ -35,7 +36,7 @@ impl Maps {
     }
 
     /// Adds entities, where the rules hold afterwards.
-    pub fn add(&mut self, entities: Vec<NewEntity>) -> Result<(), OutOfMemory>
+    pub(crate) fn add(&mut self, entities: Vec<NewEntity>) -> Result<(), OutOfMemory>
         requires stands { Stands self.old }
         requires new { AreNew (program_in self.old) entities.items }
         ensures ok { OnOk result (program_in self.new ≡ with_entities (program_in self.old) entities.items) }

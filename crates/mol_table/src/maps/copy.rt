@@ -6,12 +6,12 @@ use crate::maps::Maps;
 use crate::maps::first_cells::copy_places;
 use indexmap::IndexMap;
 use mol_base::{Id, OutOfMemory};
-use mol_values::{Cell, Known, Value};
+use mol_values_types::{Cell, Known, Value};
 use std::alloc::Global;
 
 impl Maps {
     /// Maps with the same entries. The time is that of a look-up for each.
-    pub fn copy(&self, alloc: Global) -> Result<Maps, OutOfMemory>
+    pub(crate) fn copy(&self, alloc: Global) -> Result<Maps, OutOfMemory>
         ensures program { IfOk result (λ copy. program_in copy ≡ program_in self.now) }
         ensures counts { IfOk result (λ copy. counts_in copy ≡ counts_in self.now) }
         ensures ordered { IfOk result IsOrdered }

@@ -6,12 +6,12 @@ ghost use Rattle.mol_table.specs.Maps.{program_in};
 
 use crate::maps::Maps;
 use mol_base::{Id, Tag};
-use mol_values::{Cell, Slot, Value};
+use mol_values_types::{Cell, Slot, Value};
 use std::alloc::Global;
 
 impl Maps {
     /// The value of a cell that stands near the first cell of its identity, if it does.
-    pub fn value_nearby(&self, cell: &Cell) -> Option<&Value>
+    pub(crate) fn value_nearby(&self, cell: &Cell) -> Option<&Value>
         ensures { IfSome result (λ value. map.get (program_in self.now).cells cell.now ≡ Some value.now) }
     {
         if cell.id.tag != Tag::base() {

@@ -2,7 +2,7 @@
 ghost use Rattle.std.specs.Prelude.{◌≡◌, IfOk, map};
 ghost use Rattle.std.specs.FinMap.{from_entries, entries};
 ghost use Rattle.mol_table.specs.Maps.{cells_of, program_in, counts_in, IsOrdered};
-ghost use Rattle.mol_table.specs.Tidy.{tidy};
+ghost use Rattle.mol_table_rules.specs.Tidy.{tidy};
 ghost use Rattle.mol_table.specs.Tidying.{entry_by};
 
 use crate::maps::Maps;
@@ -11,13 +11,13 @@ use crate::maps::first_cells::copy_places;
 use crate::tidy::tidy_value;
 use indexmap::IndexMap;
 use mol_base::{Id, OutOfMemory};
-use mol_values::{Cell, Value};
+use mol_values_types::{Cell, Value};
 use std::alloc::Global;
 
 impl Maps {
     /// Maps with each value tidied. The time is that of a look-up for each cell and each identity, and
     /// one for each call in the values.
-    pub fn tidied(&self, alloc: Global) -> Result<Maps, OutOfMemory>
+    pub(crate) fn tidied(&self, alloc: Global) -> Result<Maps, OutOfMemory>
         ensures program { IfOk result (λ tidied. program_in tidied ≡ tidy (program_in self.now)) }
         ensures counts { IfOk result (λ tidied. counts_in tidied ≡ counts_in self.now) }
         ensures ordered { IfOk result IsOrdered }

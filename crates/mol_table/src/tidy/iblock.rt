@@ -1,13 +1,13 @@
 //! Bodies, blocks and statements, tidied.
 ghost use Rattle.std.specs.Prelude.{◌≡◌, IfOk, map};
-ghost use Rattle.mol_values.specs.Blocks.{branch_of};
+ghost use Rattle.mol_values_types.specs.Blocks.{branch_of};
 ghost use Rattle.mol_table.specs.Tidying.{expr_by, declarator_by, let_by, start_by, else_by, node_by, block_by, if_by, statement_by, body_by};
 
 use crate::maps::Maps;
 use crate::tidy::{tidy_all, tidy_arguments, tidy_expr, tidy_maybe};
 use indexmap::IndexMap;
-use mol_base::{Boxed, Id, List, OutOfMemory};
-use mol_values::{
+use mol_base::{Boxed, Id, List, OutOfMemory, both};
+use mol_values_types::{
     IBlock, IBody, IDeclarator, IElse, IExpr, IForStart, IIf, ILet, IStmt, IStmtNode, copy_texts,
 };
 use std::alloc::Global;
@@ -184,43 +184,81 @@ fn tidy_node(
     ensures { IfOk result (λ tidied. tidied ≡ node_by maps.now index.now.entries node.now) }
 {
     match node {
-        IStmtNode::Block(block) => Ok(IStmtNode::Block(tidy_block(alloc, maps, index, block)?)),
-        IStmtNode::Let(decl) => Ok(IStmtNode::Let(tidy_let(alloc, maps, index, decl)?)),
-        IStmtNode::Do(e) => Ok(IStmtNode::Do(tidy_expr(alloc, maps, index, e)?)),
-        IStmtNode::If(branch) => Ok(IStmtNode::If(tidy_if(alloc, maps, index, branch)?)),
-        IStmtNode::While(e, body) => Ok(IStmtNode::While(
-            tidy_expr(alloc, maps, index, e)?,
-            tidy_block(alloc, maps, index, body)?,
-        )),
-        IStmtNode::For(start, test, steps, body) => Ok(IStmtNode::For(
-            tidy_start(alloc, maps, index, start)?,
-            tidy_maybe(alloc, maps, index, test)?,
-            tidy_all(alloc, maps, index, steps.items())?,
-            tidy_block(alloc, maps, index, body)?,
-        )),
-        IStmtNode::Each(is_final, ty, name, e, body) => Ok(IStmtNode::Each(
-            *is_final,
-            ty.copy(alloc)?,
-            name.copy(alloc)?,
-            tidy_expr(alloc, maps, index, e)?,
-            tidy_block(alloc, maps, index, body)?,
-        )),
-        IStmtNode::Return(e) => Ok(IStmtNode::Return(tidy_maybe(alloc, maps, index, e)?)),
-        IStmtNode::Throw(e) => Ok(IStmtNode::Throw(tidy_expr(alloc, maps, index, e)?)),
+        IStmtNode::Block(block) => match tidy_block(alloc, maps, index, block) {
+            Ok(block) => Ok(IStmtNode::Block(block)),
+            Err(want) => Err(want),
+        },
+        IStmtNode::Let(decl) => match tidy_let(alloc, maps, index, decl) {
+            Ok(decl) => Ok(IStmtNode::Let(decl)),
+            Err(want) => Err(want),
+        },
+        IStmtNode::Do(e) => match tidy_expr(alloc, maps, index, e) {
+            Ok(e) => Ok(IStmtNode::Do(e)),
+            Err(want) => Err(want),
+        },
+        IStmtNode::If(branch) => match tidy_if(alloc, maps, index, branch) {
+            Ok(branch) => Ok(IStmtNode::If(branch)),
+            Err(want) => Err(want),
+        },
+        IStmtNode::While(e, body) => match both(
+            tidy_expr(alloc, maps, index, e),
+            tidy_block(alloc, maps, index, body),
+        ) {
+            Ok((e, body)) => Ok(IStmtNode::While(e, body)),
+            Err(want) => Err(want),
+        },
+        IStmtNode::For(start, test, steps, body) => match both(
+            tidy_start(alloc, maps, index, start),
+            both(
+                tidy_maybe(alloc, maps, index, test),
+                both(
+                    tidy_all(alloc, maps, index, steps.items()),
+                    tidy_block(alloc, maps, index, body),
+                ),
+            ),
+        ) {
+            Ok((start, (test, (steps, body)))) => Ok(IStmtNode::For(start, test, steps, body)),
+            Err(want) => Err(want),
+        },
+        IStmtNode::Each(is_final, ty, name, e, body) => match both(
+            ty.copy(alloc),
+            both(
+                name.copy(alloc),
+                both(
+                    tidy_expr(alloc, maps, index, e),
+                    tidy_block(alloc, maps, index, body),
+                ),
+            ),
+        ) {
+            Ok((ty, (name, (e, body)))) => Ok(IStmtNode::Each(*is_final, ty, name, e, body)),
+            Err(want) => Err(want),
+        },
+        IStmtNode::Return(e) => match tidy_maybe(alloc, maps, index, e) {
+            Ok(e) => Ok(IStmtNode::Return(e)),
+            Err(want) => Err(want),
+        },
+        IStmtNode::Throw(e) => match tidy_expr(alloc, maps, index, e) {
+            Ok(e) => Ok(IStmtNode::Throw(e)),
+            Err(want) => Err(want),
+        },
         IStmtNode::Break => Ok(IStmtNode::Break),
         IStmtNode::Continue => Ok(IStmtNode::Continue),
         IStmtNode::Empty => Ok(IStmtNode::Empty),
-        IStmtNode::Super(constructor, args) => Ok(IStmtNode::Super(
-            *constructor,
-            tidy_arguments(alloc, maps, index, constructor, args.items())?,
-        )),
-        IStmtNode::SuperDefault(class) => Ok(IStmtNode::SuperDefault(*class)),
-        IStmtNode::SuperOutside(args) => Ok(IStmtNode::SuperOutside(tidy_all(
+        IStmtNode::Super(constructor, args) => match tidy_arguments(
             alloc,
             maps,
             index,
+            constructor,
             args.items(),
-        )?)),
+        ) {
+            Ok(args) => Ok(IStmtNode::Super(*constructor, args)),
+            Err(want) => Err(want),
+        },
+        IStmtNode::SuperDefault(class) => Ok(IStmtNode::SuperDefault(*class)),
+        IStmtNode::SuperOutside(args) => match tidy_all(alloc, maps, index, args.items()) {
+            Ok(args) => Ok(IStmtNode::SuperOutside(args)),
+            Err(want) => Err(want),
+        },
     }
 }
 

@@ -1,14 +1,14 @@
 //! Expressions, tidied: the arguments of each call made those of the present parameters of its method.
 ghost use Rattle.std.specs.Prelude.{◌≡◌, IfOk, map, option_map, option_copied};
 ghost use Rattle.mol_table.specs.Maps.{program_in};
-ghost use Rattle.mol_table.specs.Program.{params_at};
-ghost use Rattle.mol_table.specs.Tidy.{value_of, arguments_for, filler_expr, creation};
+ghost use Rattle.mol_table_rules.specs.Program.{params_at};
+ghost use Rattle.mol_table_rules.specs.Tidy.{value_of, arguments_for, filler_expr, creation};
 ghost use Rattle.mol_table.specs.Tidying.{bare_in, expr_by, argument_by};
 
 use crate::maps::Maps;
 use indexmap::IndexMap;
-use mol_base::{Boxed, Id, List, OutOfMemory, Text};
-use mol_values::{Argument, IExpr, Param};
+use mol_base::{Boxed, Id, List, OutOfMemory, Text, both};
+use mol_values_types::{Argument, IExpr, Param};
 use std::alloc::Global;
 
 /// The expression, tidied. The index has the constructors that there are.
@@ -22,106 +22,187 @@ pub(crate) fn tidy_expr(
     ensures { IfOk result (λ tidied. tidied ≡ expr_by maps.now index.now.entries e.now) }
 {
     match e {
-        IExpr::Lit(text) => Ok(IExpr::Lit(text.copy(alloc)?)),
+        IExpr::Lit(text) => match text.copy(alloc) {
+            Ok(text) => Ok(IExpr::Lit(text)),
+            Err(want) => Err(want),
+        },
         IExpr::This => Ok(IExpr::This),
         IExpr::Local(number) => Ok(IExpr::Local(*number)),
         IExpr::Param(id) => Ok(IExpr::Param(*id)),
         IExpr::Own(field) => Ok(IExpr::Own(*field)),
         IExpr::StaticField(field) => Ok(IExpr::StaticField(*field)),
-        IExpr::Field(field, e) => Ok(IExpr::Field(
-            *field,
-            tidy_boxed(alloc, maps, index, e.get())?,
-        )),
-        IExpr::Call(method, args) => Ok(IExpr::Call(
-            *method,
-            tidy_arguments(alloc, maps, index, method, args.items())?,
-        )),
-        IExpr::StaticCall(method, args) => Ok(IExpr::StaticCall(
-            *method,
-            tidy_arguments(alloc, maps, index, method, args.items())?,
-        )),
-        IExpr::CallOn(method, e, args) => Ok(IExpr::CallOn(
-            *method,
-            tidy_boxed(alloc, maps, index, e.get())?,
-            tidy_arguments(alloc, maps, index, method, args.items())?,
-        )),
-        IExpr::SuperCall(method, args) => Ok(IExpr::SuperCall(
-            *method,
-            tidy_arguments(alloc, maps, index, method, args.items())?,
-        )),
-        IExpr::New(constructor, args) => Ok(IExpr::New(
-            *constructor,
-            tidy_arguments(alloc, maps, index, constructor, args.items())?,
-        )),
+        IExpr::Field(field, e) => match tidy_boxed(alloc, maps, index, e.get()) {
+            Ok(e) => Ok(IExpr::Field(*field, e)),
+            Err(want) => Err(want),
+        },
+        IExpr::Call(method, args) => match tidy_arguments(
+            alloc,
+            maps,
+            index,
+            method,
+            args.items(),
+        ) {
+            Ok(args) => Ok(IExpr::Call(*method, args)),
+            Err(want) => Err(want),
+        },
+        IExpr::StaticCall(method, args) => match tidy_arguments(
+            alloc,
+            maps,
+            index,
+            method,
+            args.items(),
+        ) {
+            Ok(args) => Ok(IExpr::StaticCall(*method, args)),
+            Err(want) => Err(want),
+        },
+        IExpr::CallOn(method, e, args) => match both(
+            tidy_boxed(alloc, maps, index, e.get()),
+            tidy_arguments(alloc, maps, index, method, args.items()),
+        ) {
+            Ok((e, args)) => Ok(IExpr::CallOn(*method, e, args)),
+            Err(want) => Err(want),
+        },
+        IExpr::SuperCall(method, args) => match tidy_arguments(
+            alloc,
+            maps,
+            index,
+            method,
+            args.items(),
+        ) {
+            Ok(args) => Ok(IExpr::SuperCall(*method, args)),
+            Err(want) => Err(want),
+        },
+        IExpr::New(constructor, args) => match tidy_arguments(
+            alloc,
+            maps,
+            index,
+            constructor,
+            args.items(),
+        ) {
+            Ok(args) => Ok(IExpr::New(*constructor, args)),
+            Err(want) => Err(want),
+        },
         IExpr::NewDefault(class) => Ok(creation(alloc, class, index.get(class))),
-        IExpr::Cond(test, a, b) => Ok(IExpr::Cond(
-            tidy_boxed(alloc, maps, index, test.get())?,
-            tidy_boxed(alloc, maps, index, a.get())?,
-            tidy_boxed(alloc, maps, index, b.get())?,
-        )),
-        IExpr::OutsideName(name) => Ok(IExpr::OutsideName(name.copy(alloc)?)),
-        IExpr::OutsideClass(name) => Ok(IExpr::OutsideClass(name.copy(alloc)?)),
-        IExpr::OutsideField(name, e) => Ok(IExpr::OutsideField(
-            name.copy(alloc)?,
-            tidy_boxed(alloc, maps, index, e.get())?,
-        )),
-        IExpr::OutsideCall(name, args) => Ok(IExpr::OutsideCall(
-            name.copy(alloc)?,
-            tidy_all(alloc, maps, index, args.items())?,
-        )),
-        IExpr::OutsideCallOn(name, e, args) => Ok(IExpr::OutsideCallOn(
-            name.copy(alloc)?,
-            tidy_boxed(alloc, maps, index, e.get())?,
-            tidy_all(alloc, maps, index, args.items())?,
-        )),
-        IExpr::OutsideSuperCall(name, args) => Ok(IExpr::OutsideSuperCall(
-            name.copy(alloc)?,
-            tidy_all(alloc, maps, index, args.items())?,
-        )),
-        IExpr::NewOutside(ty, args) => Ok(IExpr::NewOutside(
-            ty.copy(alloc)?,
-            tidy_all(alloc, maps, index, args.items())?,
-        )),
-        IExpr::NewArray(ty, sizes, open) => Ok(IExpr::NewArray(
-            ty.copy(alloc)?,
-            tidy_all(alloc, maps, index, sizes.items())?,
-            *open,
-        )),
-        IExpr::ArrayLit(ty, items) => Ok(IExpr::ArrayLit(
-            ty.copy(alloc)?,
-            tidy_all(alloc, maps, index, items.items())?,
-        )),
-        IExpr::Braces(items) => Ok(IExpr::Braces(tidy_all(alloc, maps, index, items.items())?)),
-        IExpr::Index(e, i) => Ok(IExpr::Index(
-            tidy_boxed(alloc, maps, index, e.get())?,
-            tidy_boxed(alloc, maps, index, i.get())?,
-        )),
-        IExpr::Unary(op, e) => Ok(IExpr::Unary(
-            op.copy(alloc)?,
-            tidy_boxed(alloc, maps, index, e.get())?,
-        )),
-        IExpr::Post(op, e) => Ok(IExpr::Post(
-            op.copy(alloc)?,
-            tidy_boxed(alloc, maps, index, e.get())?,
-        )),
-        IExpr::Binary(op, a, b) => Ok(IExpr::Binary(
-            op.copy(alloc)?,
-            tidy_boxed(alloc, maps, index, a.get())?,
-            tidy_boxed(alloc, maps, index, b.get())?,
-        )),
-        IExpr::Assign(op, a, b) => Ok(IExpr::Assign(
-            op.copy(alloc)?,
-            tidy_boxed(alloc, maps, index, a.get())?,
-            tidy_boxed(alloc, maps, index, b.get())?,
-        )),
-        IExpr::Cast(ty, e) => Ok(IExpr::Cast(
-            ty.copy(alloc)?,
-            tidy_boxed(alloc, maps, index, e.get())?,
-        )),
-        IExpr::InstanceOf(e, ty) => Ok(IExpr::InstanceOf(
-            tidy_boxed(alloc, maps, index, e.get())?,
-            ty.copy(alloc)?,
-        )),
+        IExpr::Cond(test, a, b) => match both(
+            tidy_boxed(alloc, maps, index, test.get()),
+            both(
+                tidy_boxed(alloc, maps, index, a.get()),
+                tidy_boxed(alloc, maps, index, b.get()),
+            ),
+        ) {
+            Ok((test, (a, b))) => Ok(IExpr::Cond(test, a, b)),
+            Err(want) => Err(want),
+        },
+        IExpr::OutsideName(name) => match name.copy(alloc) {
+            Ok(name) => Ok(IExpr::OutsideName(name)),
+            Err(want) => Err(want),
+        },
+        IExpr::OutsideClass(name) => match name.copy(alloc) {
+            Ok(name) => Ok(IExpr::OutsideClass(name)),
+            Err(want) => Err(want),
+        },
+        IExpr::OutsideField(name, e) => match both(
+            name.copy(alloc),
+            tidy_boxed(alloc, maps, index, e.get()),
+        ) {
+            Ok((name, e)) => Ok(IExpr::OutsideField(name, e)),
+            Err(want) => Err(want),
+        },
+        IExpr::OutsideCall(name, args) => match both(
+            name.copy(alloc),
+            tidy_all(alloc, maps, index, args.items()),
+        ) {
+            Ok((name, args)) => Ok(IExpr::OutsideCall(name, args)),
+            Err(want) => Err(want),
+        },
+        IExpr::OutsideCallOn(name, e, args) => match both(
+            name.copy(alloc),
+            both(
+                tidy_boxed(alloc, maps, index, e.get()),
+                tidy_all(alloc, maps, index, args.items()),
+            ),
+        ) {
+            Ok((name, (e, args))) => Ok(IExpr::OutsideCallOn(name, e, args)),
+            Err(want) => Err(want),
+        },
+        IExpr::OutsideSuperCall(name, args) => match both(
+            name.copy(alloc),
+            tidy_all(alloc, maps, index, args.items()),
+        ) {
+            Ok((name, args)) => Ok(IExpr::OutsideSuperCall(name, args)),
+            Err(want) => Err(want),
+        },
+        IExpr::NewOutside(ty, args) => match both(
+            ty.copy(alloc),
+            tidy_all(alloc, maps, index, args.items()),
+        ) {
+            Ok((ty, args)) => Ok(IExpr::NewOutside(ty, args)),
+            Err(want) => Err(want),
+        },
+        IExpr::NewArray(ty, sizes, open) => match both(
+            ty.copy(alloc),
+            tidy_all(alloc, maps, index, sizes.items()),
+        ) {
+            Ok((ty, sizes)) => Ok(IExpr::NewArray(ty, sizes, *open)),
+            Err(want) => Err(want),
+        },
+        IExpr::ArrayLit(ty, items) => match both(
+            ty.copy(alloc),
+            tidy_all(alloc, maps, index, items.items()),
+        ) {
+            Ok((ty, items)) => Ok(IExpr::ArrayLit(ty, items)),
+            Err(want) => Err(want),
+        },
+        IExpr::Braces(items) => match tidy_all(alloc, maps, index, items.items()) {
+            Ok(items) => Ok(IExpr::Braces(items)),
+            Err(want) => Err(want),
+        },
+        IExpr::Index(e, i) => match both(
+            tidy_boxed(alloc, maps, index, e.get()),
+            tidy_boxed(alloc, maps, index, i.get()),
+        ) {
+            Ok((e, i)) => Ok(IExpr::Index(e, i)),
+            Err(want) => Err(want),
+        },
+        IExpr::Unary(op, e) => match both(op.copy(alloc), tidy_boxed(alloc, maps, index, e.get())) {
+            Ok((op, e)) => Ok(IExpr::Unary(op, e)),
+            Err(want) => Err(want),
+        },
+        IExpr::Post(op, e) => match both(op.copy(alloc), tidy_boxed(alloc, maps, index, e.get())) {
+            Ok((op, e)) => Ok(IExpr::Post(op, e)),
+            Err(want) => Err(want),
+        },
+        IExpr::Binary(op, a, b) => match both(
+            op.copy(alloc),
+            both(
+                tidy_boxed(alloc, maps, index, a.get()),
+                tidy_boxed(alloc, maps, index, b.get()),
+            ),
+        ) {
+            Ok((op, (a, b))) => Ok(IExpr::Binary(op, a, b)),
+            Err(want) => Err(want),
+        },
+        IExpr::Assign(op, a, b) => match both(
+            op.copy(alloc),
+            both(
+                tidy_boxed(alloc, maps, index, a.get()),
+                tidy_boxed(alloc, maps, index, b.get()),
+            ),
+        ) {
+            Ok((op, (a, b))) => Ok(IExpr::Assign(op, a, b)),
+            Err(want) => Err(want),
+        },
+        IExpr::Cast(ty, e) => match both(ty.copy(alloc), tidy_boxed(alloc, maps, index, e.get())) {
+            Ok((ty, e)) => Ok(IExpr::Cast(ty, e)),
+            Err(want) => Err(want),
+        },
+        IExpr::InstanceOf(e, ty) => match both(
+            tidy_boxed(alloc, maps, index, e.get()),
+            ty.copy(alloc),
+        ) {
+            Ok((e, ty)) => Ok(IExpr::InstanceOf(e, ty)),
+            Err(want) => Err(want),
+        },
     }
 }
 

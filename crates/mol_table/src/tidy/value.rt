@@ -6,7 +6,7 @@ use crate::maps::Maps;
 use crate::tidy::{tidy_body, tidy_maybe};
 use indexmap::IndexMap;
 use mol_base::{Boxed, Id, OutOfMemory};
-use mol_values::{IBody, Value};
+use mol_values_types::{IBody, Value};
 use std::alloc::Global;
 
 /// The body there is, tidied.

@@ -1,13 +1,13 @@
 -- What stops a merge before the first write, and what it comes to.
 use Rattle.std.proofs.Common.{◌≡◌, ◌⊎◌, inl, inr, Option, Bool, true, false, ◌∙◌, ap, refl}
 use Rattle.std.specs.Prelude.{None, Some, option_map}
-use Rattle.std.specs.Option.{option_or, ForSome}
+use Rattle.std.specs.Option.{option_or}
 use Rattle.mol_outside.specs.Contents.{Contents}
-use Rattle.mol_table.specs.Program.{Program}
+use Rattle.mol_table_rules.specs.Program.{Program}
 use Rattle.mol_top.specs.Answers.{limit_status}
 use Rattle.mol_top.specs.Command.{MergeWords, Command}
 use Rattle.mol_top.specs.Outcome.{ByNames}
-use Rattle.mol_top.specs.Outside.{Store}
+use Rattle.mol_top.specs.Outside.{IfTold, Store}
 use Rattle.mol_top.specs.Prepared.{IsStopped, StopsCommand}
 use Rattle.mol_top.specs.Refusals.{out_refusal}
 use Rattle.mol_top.specs.Report.{line_bytes, names_addresses, refusal_line}
@@ -76,7 +76,7 @@ module _ (w : MergeWords) (h : Contents) (inputs : Inputs) (has : HasInputs w h 
 
 -- # A stop at the logs
 
-merging_cause : (w : MergeWords) (old new : Store) (inputs : Inputs) (fault : MergeFault) → ForSome old.held (λ h. HasInputs w h inputs)
+merging_cause : (w : MergeWords) (old new : Store) (inputs : Inputs) (fault : MergeFault) → IfTold old.held (λ h. HasInputs w h inputs)
     → RefusesLogs (merge_refusal inputs.base inputs.first inputs.second) fault → StopsCommand (Command.merge w) old new (merge_status fault)
 merging_cause w old new inputs logs.OutOfMemory has by = tt
 merging_cause w old new inputs (logs.Log k f) has by = λ h e. merge_refuses w h inputs (has h e) ∙ ap (option_map merge_status) by
@@ -87,13 +87,13 @@ any_base base (LogRefused k (Replay (NotClean f))) plain = absurd cc
 any_base base (LogRefused k (SharedTag t)) plain = refl
 any_base base s plain = refl
 
-by_names : (b : Bool) (w : MergeWords) (store : Store) (inputs : Inputs) (refusal : Refusal) → names_addresses refusal.status ≡ b → ForSome store.held (λ h. HasInputs w h inputs)
+by_names : (b : Bool) (w : MergeWords) (store : Store) (inputs : Inputs) (refusal : Refusal) → names_addresses refusal.status ≡ b → IfTold store.held (λ h. HasInputs w h inputs)
     → line_bytes refusal.line ≡ merge_line inputs.base refusal.status → ByNames b (Some (Command.merge w)) store refusal.status (λ line. line_bytes refusal.line ≡ line)
 by_names true w store inputs refusal names has is =
     λ h e. (line_bytes refusal.line, is ∙ ap (λ base. merge_line base refusal.status) (has h e).base, refl)
 by_names false w store inputs refusal names has is = is ∙ any_base inputs.base refusal.status names
 
-pub stopped_merging : (w : MergeWords) (old new : Store) (inputs : Inputs) (fault : MergeFault) (refusal : Refusal) → ForSome old.held (λ h. HasInputs w h inputs)
+pub stopped_merging : (w : MergeWords) (old new : Store) (inputs : Inputs) (fault : MergeFault) (refusal : Refusal) → IfTold old.held (λ h. HasInputs w h inputs)
     → RefusesLogs (merge_refusal inputs.base inputs.first inputs.second) fault → IsRefusalOf inputs.base fault refusal → IsStopped (Command.merge w) old new refusal
 stopped_merging w old new inputs fault refusal has by is = record {
   cause = either_stops (Command.merge w) old new (merge_status fault) refusal.status (merging_cause w old new inputs fault has by) is.status;

@@ -4,7 +4,7 @@ use Rattle.std.specs.Prelude.{None, Some, nat_eq, is_some, option_map, codes}
 use Rattle.std.specs.Option.{option_or}
 use Rattle.std.specs.Cmp.Lexicographic.{pointwise, nat_list_eq_equiv}
 use Rattle.mol_outside.specs.Contents.{Contents}
-use Rattle.mol_table.specs.Program.{Program}
+use Rattle.mol_table_rules.specs.Program.{Program}
 use Rattle.mol_renames.specs.ClassFiles.{file_list}
 use Rattle.mol_top.specs.Command.{MergeWords, swapped, joined}
 use Rattle.mol_top.specs.Output.{below}

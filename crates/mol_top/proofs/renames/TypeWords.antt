@@ -1,11 +1,11 @@
 -- Types that have no words.
 use Rattle.std.proofs.Common.{◌≡◌, ℕ, List, [], sym, ap, ◌∙◌}
 use Rattle.mol_top.specs.renames.ValueText.{type_words, words_step}
-use Rattle.mol_values.specs.declared.itype.IType.{IType}
-use Rattle.mol_values.specs.declared.itype.IType.TheFolds.{fold-roll-IType, map-IType}
-use Rattle.mol_values.specs.declared.itype.IType.TheOpen.{IType-F}
-use Rattle.mol_values.specs.declared.itype.IType.TheVariants as kinds
-use Rattle.mol_values.specs.declared.itype.IType.TheViews.{roll-IType}
+use Rattle.mol_values_types.specs.declared.itype.IType.{IType}
+use Rattle.mol_values_types.specs.declared.itype.IType.TheFolds.{fold-roll-IType, map-IType}
+use Rattle.mol_values_types.specs.declared.itype.IType.TheOpen.{IType-F}
+use Rattle.mol_values_types.specs.declared.itype.IType.TheVariants as kinds
+use Rattle.mol_values_types.specs.declared.itype.IType.TheViews.{roll-IType}
 
 module _ (type : IType) where
   by_kind : (kind : IType-F IType) → type ≡ roll-IType kind → type_words type ≡ words_step (map-IType _ _ type_words kind)

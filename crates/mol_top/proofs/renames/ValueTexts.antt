@@ -5,8 +5,8 @@ use Rattle.serde_json.specs.Data.{Data, string, Items, item, no_items}
 use Rattle.serde_json.specs.Written.{has_float, items_have_float}
 use Rattle.serde_json.specs.View.{view, items_view}
 use Rattle.serde_json.specs.declared.value.Value.{Value as Json}
-use Rattle.mol_values.specs.declared.value.Value.{Value}
-use Rattle.mol_values.specs.declared.value.Value.TheVariants.{Live, Package, Owner, Method, Name, Super, Result, Params, Kind, Fixed, Words, Notes, Body, Value as FieldValue}
+use Rattle.mol_values_types.specs.declared.value.Value.{Value}
+use Rattle.mol_values_types.specs.declared.value.Value.TheVariants.{Live, Package, Owner, Method, Name, Super, Result, Params, Kind, Fixed, Words, Notes, Body, Value as FieldValue}
 use Rattle.mol_top.specs.renames.ValueText.{text_items, type_words, value_data}
 
 texts_no_float : (texts : List (List ℕ)) → items_have_float (text_items texts) ≡ false

@@ -6,10 +6,10 @@ use Rattle.serde_json.specs.Written.{compact_text}
 use Rattle.mol_base.specs.Identity.{spelled_id, spelled_stamp}
 use Rattle.mol_base.specs.declared.ident.Id.{Id}
 use Rattle.mol_base.specs.declared.ident.Stamp.{Stamp}
-use Rattle.mol_table.specs.Program.{Program}
-use Rattle.mol_values.specs.declared.cell.Cell.{Cell}
-use Rattle.mol_values.specs.declared.cell.Slot.{Slot}
-use Rattle.mol_values.specs.declared.cell.Slot.TheVariants as slots
+use Rattle.mol_table_rules.specs.Program.{Program}
+use Rattle.mol_values_types.specs.declared.cell.Cell.{Cell}
+use Rattle.mol_values_types.specs.declared.cell.Slot.{Slot}
+use Rattle.mol_values_types.specs.declared.cell.Slot.TheVariants as slots
 use Rattle.mol_top.specs.Report.{log_line, refusal_line}
 use Rattle.mol_renames.specs.Cells.{has}
 use Rattle.mol_renames.specs.Faults.{class_at}

@@ -1,12 +1,12 @@
 -- What is read of a command's inputs.
 use Rattle.std.specs.Prelude.{◌≡◌, ℕ, List, length, Option, None, Some, is_some, if◌then◌else◌}
 use Rattle.std.specs.List.{filter_map}
-use Rattle.std.specs.Option.{ForSome, option_or, option_and_then}
+use Rattle.std.specs.Option.{option_or, option_and_then}
 use Rattle.std.specs.FinMap.{get}
 use Rattle.mol_outside.specs.Contents.{Contents}
 use Rattle.mol_base.specs.Files.{FilePair}
 use Rattle.mol_top.specs.Answers.{store_status}
-use Rattle.mol_top.specs.Outside.{Store}
+use Rattle.mol_top.specs.Outside.{IfTold, Store}
 use Rattle.mol_top.specs.Steps.{IsNamed, Only, Stops}
 use Rattle.mol_renames.specs.BaseProgram.{base_program}
 use Rattle.mol_renames.specs.ClassFiles.{address_in, digest_of}
@@ -75,7 +75,7 @@ input_status (faults.NotBuilt path) = NotBuilt path
 -- a step that reads inputs stops: at the store, or by what refuses these contents
 abbrev pub InputStops : (List ℕ → Type 0) → Store → Store → (Contents → Option Status) → InputFault → Type 0
 InputStops reads old new refusal (faults.Store fault) = Stops reads old new refusal fault
-InputStops reads old new refusal (faults.NotBuilt path) = ForSome old.held (λ h. refusal h ≡ Some (NotBuilt path))
+InputStops reads old new refusal (faults.NotBuilt path) = IfTold old.held (λ h. refusal h ≡ Some (NotBuilt path))
 
 -- the reading of a log over a base stops
 abbrev pub StopsLog : Base → List ℕ → Store → Store → InputFault → Type 0

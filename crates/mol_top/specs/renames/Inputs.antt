@@ -4,7 +4,7 @@ use Rattle.std.specs.List.{filter_map}
 use Rattle.std.specs.Option.{option_and_then}
 use Rattle.std.specs.FinMap.{get}
 use Rattle.mol_outside.specs.Contents.{Contents}
-use Rattle.mol_table.specs.Program.{Program}
+use Rattle.mol_table_rules.specs.Program.{Program}
 use Rattle.mol_renames.specs.BaseProgram.{base_program}
 use Rattle.mol_top.specs.Command.{MergeWords}
 use Rattle.mol_top.specs.Files.{base_files}

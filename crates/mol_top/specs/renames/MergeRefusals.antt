@@ -3,7 +3,7 @@ use Rattle.std.specs.Prelude.{ℕ, List, Option, None, Some, option_map, is_some
 use Rattle.std.specs.Option.{option_or}
 use Rattle.mol_outside.specs.Contents.{Contents}
 use Rattle.mol_base.specs.Files.{FilePair}
-use Rattle.mol_table.specs.Program.{Program}
+use Rattle.mol_table_rules.specs.Program.{Program}
 use Rattle.mol_renames.specs.Addresses.{unbuilt_path}
 use Rattle.mol_renames.specs.LogRefusals.{merge_refusal}
 use Rattle.mol_renames.specs.declared.log.Log.{Log as LogSeen}

@@ -2,10 +2,10 @@
 use Rattle.std.specs.Prelude.{ℕ, List, [], ◌∷◌, codes, Option, None, Some}
 use Rattle.serde_json.specs.Data.{Data, Items, null, boolean, string, array, object, no_items, item, no_members, member}
 use Rattle.mol_base.specs.Identity.{spelled_id}
-use Rattle.mol_values.specs.declared.itype.IType.{IType, fold-IType}
-use Rattle.mol_values.specs.declared.itype.IType.TheOpen.{IType-F}
-use Rattle.mol_values.specs.declared.value.Value.{Value}
-use Rattle.mol_values.specs.declared.value.Value.TheVariants.{Live, Package, Name, Super, Words, Notes}
+use Rattle.mol_values_types.specs.declared.itype.IType.{IType, fold-IType}
+use Rattle.mol_values_types.specs.declared.itype.IType.TheOpen.{IType-F}
+use Rattle.mol_values_types.specs.declared.value.Value.{Value}
+use Rattle.mol_values_types.specs.declared.value.Value.TheVariants.{Live, Package, Name, Super, Words, Notes}
 
 -- texts as the strings of an array
 abbrev pub text_items : List (List ℕ) → Items

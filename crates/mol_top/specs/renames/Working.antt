@@ -1,7 +1,7 @@
 -- What a merge makes before the first write.
 use Rattle.std.specs.Prelude.{◌≡◌, ◌⊎◌, ℕ, List, [], ◌∷◌, ◌++◌, length, map, codes}
 use Rattle.mol_base.specs.Files.{file_pairs, FilePair}
-use Rattle.mol_table.specs.Program.{Program}
+use Rattle.mol_table_rules.specs.Program.{Program}
 use Rattle.mol_top.specs.Command.{joined}
 use Rattle.mol_renames.specs.LogText.{log_text}
 use Rattle.mol_top.specs.Output.{AreNamed, below, failure_of}

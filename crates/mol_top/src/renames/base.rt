@@ -1,12 +1,11 @@
 //! The base of a command, and its logs.
 ghost use Rattle.std.specs.Prelude.{◌≡◌, ◌≤◌, IfOk, OnOk, IfErr, None, length};
-ghost use Rattle.std.specs.Option.{ForSome};
 ghost use Rattle.mol_base.specs.Limits.{most};
 ghost use Rattle.mol_base.specs.declared.limit.Which.TheVariants as limits;
 ghost use Rattle.mol_base.specs.Files.{file_pairs};
 ghost use Rattle.mol_top.specs.Carried.{Carries, CarriesOwn, NoPath};
 ghost use Rattle.mol_top.specs.Command.{merge_paths};
-ghost use Rattle.mol_top.specs.Outside.{OnlyReads, store};
+ghost use Rattle.mol_top.specs.Outside.{IfTold, OnlyReads, store};
 ghost use Rattle.mol_top.specs.Steps.{Only};
 ghost use Rattle.mol_top.specs.Words.{merge_words};
 ghost use Rattle.mol_renames.specs.Addresses.{IsAddressFault};
@@ -135,7 +134,7 @@ fn log_in<F: Files>(
     files: &mut F,
 ) -> Result<Log, InputFault>
     ensures only_reads { OnlyReads (store F.Files files.old) (store F.Files files.new) }
-    ensures log { IfOk result (λ log. ForSome (F.holds files.old) (λ held. IsLogThere base.now path.now held log)) }
+    ensures log { IfOk result (λ log. IfTold (F.holds files.old) (λ held. IsLogThere base.now path.now held log)) }
     ensures stop { IfErr result (StopsLog base.now path.now (store F.Files files.old) (store F.Files files.new)) }
     ensures carries { IfErr result (λ fault. Carries (Only path.now) (Only path.now) NoPath (input_status fault)) }
 {
@@ -153,7 +152,7 @@ pub fn read_inputs<F: Files>(
     files: &mut F,
 ) -> Result<Inputs, InputFault>
     ensures only_reads { OnlyReads (store F.Files files.old) (store F.Files files.new) }
-    ensures inputs { IfOk result (λ inputs. ForSome (F.holds files.old) (λ held. HasInputs (merge_words words.entry) held inputs)) }
+    ensures inputs { IfOk result (λ inputs. IfTold (F.holds files.old) (λ held. HasInputs (merge_words words.entry) held inputs)) }
     ensures stop { IfErr result (StopsInputs (merge_words words.entry) (store F.Files files.old) (store F.Files files.new)) }
     ensures carries { IfErr result (λ fault. CarriesOwn (merge_paths (merge_words words.entry)) (input_status fault)) }
 {

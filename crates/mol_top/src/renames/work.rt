@@ -3,7 +3,7 @@ ghost use Rattle.std.specs.Prelude.{◌≡◌, IfOk, OnOk, IfErr, None};
 ghost use Rattle.mol_base.specs.Files.{file_pairs};
 ghost use Rattle.mol_renames.specs.LogRefusals.{merge_refusal};
 ghost use Rattle.mol_renames.specs.Merging.{RefusesLogs};
-ghost use Rattle.mol_top.specs.Carried.{CarriesOwn};
+ghost use Rattle.mol_top.specs.Carried.{CarriesOwn, WritesOwn};
 ghost use Rattle.mol_top.specs.Command.{merge_paths};
 ghost use Rattle.mol_top.specs.Output.{IsReady, IsWork};
 ghost use Rattle.mol_top.specs.Outside.{OnlyReads, store};
@@ -39,6 +39,7 @@ pub fn prepare_merge<F: Files>(
     ensures only_reads { OnlyReads (store F.Files files.old) (store F.Files files.new) }
     ensures ready { IfOk result IsReady }
     ensures work { IfOk result (Prepares (merge_command words.entry) (store F.Files files.old)) }
+    ensures inside { IfOk result (WritesOwn (merge_paths (merge_words words.entry))) }
     ensures stop { IfErr result (IsStopped (merge_command words.entry) (store F.Files files.old) (store F.Files files.new)) }
     ensures carries { IfErr result (λ refusal. CarriesOwn (merge_paths (merge_words words.entry)) refusal.status) }
 {

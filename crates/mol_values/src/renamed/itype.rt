@@ -1,41 +1,59 @@
 //! Types with other identities.
 ghost use Rattle.std.specs.Prelude.{◌≡◌, IfOk};
-ghost use Rattle.mol_values.specs.Renamed.{rename_type};
+ghost use Rattle.mol_values_types.specs.Renamed.{rename_type};
+ghost use Rattle.mol_values_types.specs.declared.itype.IType.TheVariants as types;
 ghost use Rattle.mol_values.specs.Renaming.{name_in};
 
-use crate::IType;
 use crate::renamed::name_of;
 use indexmap::IndexMap;
-use mol_base::{Boxed, Id, OutOfMemory};
+use mol_base::{Boxed, Id, OutOfMemory, Text, both};
+use mol_values_types::IType;
 use std::alloc::Global;
 
-impl IType {
-    /// The type with other identities.
-    pub(crate) fn renamed(
-        &self,
-        alloc: Global,
-        names: &IndexMap<Id, Id>,
-    ) -> Result<IType, OutOfMemory>
-        ensures { IfOk result (λ renamed. renamed ≡ rename_type (name_in names.now.entries) self.now) }
-    {
-        match self {
-            IType::Boolean => Ok(IType::Boolean),
-            IType::Byte => Ok(IType::Byte),
-            IType::Short => Ok(IType::Short),
-            IType::Char => Ok(IType::Char),
-            IType::Int => Ok(IType::Int),
-            IType::Long => Ok(IType::Long),
-            IType::Void => Ok(IType::Void),
-            IType::Class(id) => Ok(IType::Class(name_of(names, id))),
-            IType::Imported(full, rest) => Ok(IType::Imported(
-                full.copy(alloc)?,
-                Boxed::new(alloc, rest.get().copy(alloc)?)?,
-            )),
-            IType::Written(name) => Ok(IType::Written(name.copy(alloc)?)),
-            IType::Array(item) => Ok(IType::Array(Boxed::new(
-                alloc,
-                item.get().renamed(alloc, names)?,
-            )?)),
-        }
+/// The type with other identities.
+pub(crate) fn rename_type(
+    alloc: Global,
+    names: &IndexMap<Id, Id>,
+    ty: &IType,
+) -> Result<IType, OutOfMemory>
+    ensures { IfOk result (λ renamed. renamed ≡ rename_type (name_in names.now.entries) ty.now) }
+{
+    match ty {
+        IType::Boolean => Ok(IType::Boolean),
+        IType::Byte => Ok(IType::Byte),
+        IType::Short => Ok(IType::Short),
+        IType::Char => Ok(IType::Char),
+        IType::Int => Ok(IType::Int),
+        IType::Long => Ok(IType::Long),
+        IType::Void => Ok(IType::Void),
+        IType::Class(id) => Ok(IType::Class(name_of(names, id))),
+        IType::Imported(full, rest) => {
+            match both(full.copy(alloc), copy_boxed(alloc, rest.get())) {
+                Ok((full, rest)) => Ok(IType::Imported(full, rest)),
+                Err(want) => Err(want),
+            }
+        },
+        IType::Written(name) => match name.copy(alloc) {
+            Ok(name) => Ok(IType::Written(name)),
+            Err(want) => Err(want),
+        },
+        IType::Array(item) => match rename_type(alloc, names, item.get()) {
+            Ok(item) => array_of(alloc, item),
+            Err(want) => Err(want),
+        },
     }
+}
+
+/// A text on the heap that equals this one.
+fn copy_boxed(alloc: Global, text: &Text) -> Result<Boxed<Text>, OutOfMemory>
+    ensures { IfOk result (λ copy. copy ≡ text.now) }
+{
+    Boxed::new(alloc, text.copy(alloc)?)
+}
+
+/// The array of items of this type.
+fn array_of(alloc: Global, item: IType) -> Result<IType, OutOfMemory>
+    ensures { IfOk result (λ array. array ≡ types.Array item) }
+{
+    Ok(IType::Array(Boxed::new(alloc, item)?))
 }

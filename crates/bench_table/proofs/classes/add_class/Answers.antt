@@ -1,9 +1,9 @@
 use Rattle.std.proofs.Common.{◌∙◌, sym, ap, subst, List}
 use Rattle.std.specs.FinMap.{get}
 use Rattle.mol_base.specs.declared.ident.Id.{Id}
-use Rattle.mol_table.specs.Program.{Program}
-use Rattle.mol_table.specs.Writes.{AreNew, with_entities}
-use Rattle.mol_table.specs.declared.entity.NewEntity.{NewEntity}
+use Rattle.mol_table_rules.specs.Program.{Program}
+use Rattle.mol_table_rules.specs.Writes.{AreNew, with_entities}
+use Rattle.mol_table_rules.specs.declared.entity.NewEntity.{NewEntity}
 use Rattle.bench_table.specs.Classes.{id_of}
 use Rattle.bench_table.proofs.Filling.{class-new, class-elsewhere, on-ok}
 use Rattle.bench_table.proofs.classes.add_class.Goals as goal

@@ -1,10 +1,10 @@
 use Rattle.std.proofs.Common.{sym, subst, ℕ, List, []}
 use Rattle.std.specs.Prelude.{codes}
-use Rattle.mol_table.specs.Rules.{IsProgram}
-use Rattle.mol_table.specs.Writes.{with_value}
-use Rattle.mol_values.specs.declared.cell.Cell.{Cell}
-use Rattle.mol_values.specs.declared.value.Value.TheVariants as values
-use Rattle.mol_table.proofs.ClassNames.{rules-named}
+use Rattle.mol_table_rules.specs.Rules.{IsProgram}
+use Rattle.mol_table_rules.specs.Writes.{with_value}
+use Rattle.mol_values_types.specs.declared.cell.Cell.{Cell}
+use Rattle.mol_values_types.specs.declared.value.Value.TheVariants as values
+use Rattle.mol_table_rules.proofs.ClassNames.{rules-named}
 use Rattle.bench_table.specs.Classes.{id_of, name_of}
 use Rattle.bench_table.proofs.Filling.{name-d}
 use Rattle.bench_table.proofs.classes.rename.Goals as goal

@@ -1,6 +1,6 @@
 use Rattle.std.proofs.Common.{◌≡◌, ◌≤◌, ℕ, [], Some}
 use Rattle.std.specs.FinMap.{get}
-use Rattle.mol_values.specs.declared.known.Known.TheVariants as knowns
+use Rattle.mol_values_types.specs.declared.known.Known.TheVariants as knowns
 use Rattle.bench_table.specs.Classes.{id_of}
 use Rattle.bench_table.proofs.classes.rename_all.Given as goal
 

@@ -1,8 +1,8 @@
 use Rattle.std.proofs.Common.{◌≡◌, ◌≤◌, ◌∙◌, ℕ, List, ap, subst, Some}
 use Rattle.std.specs.FinMap.{get, get-empty}
 use Rattle.mol_base.specs.Order.{id_cmp}
-use Rattle.mol_table.specs.Program.{Program}
-use Rattle.mol_values.specs.declared.known.Known.TheVariants as knowns
+use Rattle.mol_table_rules.specs.Program.{Program}
+use Rattle.mol_values_types.specs.declared.known.Known.TheVariants as knowns
 use Rattle.bench_table.specs.Classes.{id_of}
 use Rattle.bench_table.proofs.steps.filled.Goals as goal
 

@@ -1,7 +1,7 @@
 use Rattle.std.proofs.Common.{map}
 use Rattle.std.proofs.lemmas.Result.{on_ok_weaker}
 use Rattle.mol_faults.proofs.MetAdded.{both-added}
-use Rattle.mol_faults_support.specs.Met.{kept_met}
+use Rattle.mol_faults_rules.specs.Met.{kept_met}
 use Rattle.mol_faults.proofs.supports.add_both.Goals as goal
 
 pub returns : goal.returns

@@ -3,7 +3,7 @@ use Rattle.std.proofs.lemmas.List.{append-nil}
 use Rattle.std.proofs.lemmas.Result.{on_ok_weaker}
 use Rattle.mol_faults_misread.specs.body_misreads.Kept.{kept_misread}
 use Rattle.mol_faults.specs.Met.{met_by}
-use Rattle.mol_faults_support.specs.Met.{kept_met}
+use Rattle.mol_faults_rules.specs.Met.{kept_met}
 use Rattle.mol_faults.proofs.supports.add_met.Goals as goal
 
 pub returns-then-is : goal.returns-then-is

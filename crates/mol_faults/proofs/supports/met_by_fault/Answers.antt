@@ -3,7 +3,8 @@ use Rattle.std.specs.Prelude.{IfOk}
 use Rattle.mol_faults_rules.specs.Kept.{kept_fault}
 use Rattle.mol_faults_rules.specs.declared.fault.Fault.{Fault}
 use Rattle.mol_faults.proofs.MetNames.{none-met}
-use Rattle.mol_faults_support.specs.Met.{kept_met, HasMet}
+use Rattle.mol_faults_rules.specs.Met.{kept_met}
+use Rattle.mol_faults_support.specs.Met.{HasMet}
 use Rattle.mol_faults.proofs.supports.met_by_fault.Goals as goal
 
 pub returns-in-Misread : goal.returns-in-Misread

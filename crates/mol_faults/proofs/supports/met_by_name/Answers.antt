@@ -5,7 +5,7 @@ use Rattle.mol_faults.proofs.MetNames.{has-met}
 use Rattle.mol_faults.specs.Met.{met_among}
 use Rattle.mol_faults_misread.specs.misread_faults.Found.{kept_name}
 use Rattle.mol_faults_misread.specs.declared.misread_faults.names.MisreadName.{MisreadName}
-use Rattle.mol_faults_support.specs.Met.{kept_met}
+use Rattle.mol_faults_rules.specs.Met.{kept_met}
 use Rattle.mol_faults.proofs.supports.met_by_name.Goals as goal
 
 pub returns : goal.returns

@@ -1,6 +1,7 @@
 use Rattle.std.proofs.Common.{◌∙◌, map, sym, ap, subst}
 use Rattle.mol_faults_rules.specs.Kept.{kept_fault}
-use Rattle.mol_faults_support.specs.Met.{kept_met, HasMet}
+use Rattle.mol_faults_rules.specs.Met.{kept_met}
+use Rattle.mol_faults_support.specs.Met.{HasMet}
 use Rattle.mol_faults.proofs.supports.support.Goals as goal
 
 pub support-requires : goal.support-requires

@@ -3,7 +3,7 @@ use Rattle.std.specs.FinMap.{get}
 use Rattle.mol_faults_support.specs.Cells.{cells_of, declared_params}
 use Rattle.mol_faults_support.proofs.ByFault.{clash-rests}
 use Rattle.mol_faults_support.proofs.clashes.local_clash.Goals as goal
-use Rattle.mol_values.specs.declared.cell.Slot.TheVariants as slots
+use Rattle.mol_values_types.specs.declared.cell.Slot.TheVariants as slots
 
 pub returns : goal.returns
 returns c = λ name.

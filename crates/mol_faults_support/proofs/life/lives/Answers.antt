@@ -5,7 +5,7 @@ use Rattle.mol_faults_support.specs.Declarations.{DeclaresAny}
 use Rattle.mol_faults_support.proofs.Among.{declares-same}
 use Rattle.mol_faults_support.proofs.CellsOf.{are-lives}
 use Rattle.mol_faults_support.proofs.life.lives.Goals as goal
-use Rattle.mol_values.specs.declared.cell.Slot.TheVariants as slots
+use Rattle.mol_values_types.specs.declared.cell.Slot.TheVariants as slots
 
 pub returns : goal.returns
 returns c =

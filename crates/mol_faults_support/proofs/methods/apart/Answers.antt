@@ -5,7 +5,7 @@ use Rattle.mol_faults_support.specs.Declarations.{DeclaresAny}
 use Rattle.mol_faults_support.specs.Ways.{AreAbove}
 use Rattle.mol_faults_support.proofs.ByFault.{apart-rests}
 use Rattle.mol_faults_support.proofs.methods.apart.Goals as goal
-use Rattle.mol_values.specs.declared.cell.Slot.TheVariants as slots
+use Rattle.mol_values_types.specs.declared.cell.Slot.TheVariants as slots
 
 pub returns : goal.returns
 returns c =

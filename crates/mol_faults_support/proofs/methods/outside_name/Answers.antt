@@ -4,7 +4,7 @@ use Rattle.mol_faults_support.specs.Cells.{cells_of}
 use Rattle.mol_faults_support.specs.Declarations.{DeclaresAny}
 use Rattle.mol_faults_support.proofs.ByFault.{outside-rests}
 use Rattle.mol_faults_support.proofs.methods.outside_name.Goals as goal
-use Rattle.mol_values.specs.declared.cell.Slot.TheVariants as slots
+use Rattle.mol_values_types.specs.declared.cell.Slot.TheVariants as slots
 
 pub returns : goal.returns
 returns c =

@@ -2,7 +2,8 @@ use Rattle.std.proofs.Common.{◌∙◌, ◌++◌, sym, ap, subst, filter_map}
 use Rattle.std.proofs.lemmas.Result.{on_ok_weaker}
 use Rattle.std.specs.List.{flat_map}
 use Rattle.mol_faults_support.specs.Declarations.{DeclaresAny}
-use Rattle.mol_faults_support.specs.Met.{kept_met, method_for, header_of}
+use Rattle.mol_faults_rules.specs.Met.{kept_met}
+use Rattle.mol_faults_support.specs.Met.{method_for, header_of}
 use Rattle.mol_faults_support.proofs.OfTargets.{adds-targets}
 use Rattle.mol_faults_support.proofs.misread.add_targets.Goals as goal
 

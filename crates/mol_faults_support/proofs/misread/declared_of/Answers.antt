@@ -1,7 +1,8 @@
 use Rattle.std.proofs.Common.{◌∙◌, subst, filter_map}
 use Rattle.std.proofs.lemmas.Result.{IfOk-weaker}
 use Rattle.mol_faults_support.specs.Declarations.{AreSame}
-use Rattle.mol_faults_support.specs.Met.{kept_met, method_for}
+use Rattle.mol_faults_rules.specs.Met.{kept_met}
+use Rattle.mol_faults_support.specs.Met.{method_for}
 use Rattle.mol_faults_support.proofs.Among.{declares-same}
 use Rattle.mol_faults_support.proofs.misread.declared_of.Goals as goal
 

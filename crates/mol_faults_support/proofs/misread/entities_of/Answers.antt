@@ -2,7 +2,8 @@ use Rattle.std.proofs.Common.{◌∙◌, ◌++◌, sym, ap, filter_map}
 use Rattle.std.specs.Option.{option_to_list}
 use Rattle.std.proofs.lemmas.List.{take_all}
 use Rattle.mol_scope_classes.proofs.classes_lemmas.KnownIds.{made-more}
-use Rattle.mol_faults_support.specs.Met.{kept_met, entity_of}
+use Rattle.mol_faults_rules.specs.Met.{kept_met}
+use Rattle.mol_faults_support.specs.Met.{entity_of}
 use Rattle.mol_faults_support.proofs.misread.entities_of.Goals as goal
 
 pub loop-target-preserved : goal.loop-target-preserved

@@ -1,5 +1,6 @@
 use Rattle.std.proofs.Common.{◌≡◌, filter_map, take}
-use Rattle.mol_faults_support.specs.Met.{kept_met, method_for}
+use Rattle.mol_faults_rules.specs.Met.{kept_met}
+use Rattle.mol_faults_support.specs.Met.{method_for}
 use Rattle.mol_faults_support.proofs.misread.methods_for.Given as goal
 
 abbrev pub invariant-loop-target : goal.invariant-loop-target

@@ -1,5 +1,5 @@
 use Rattle.std.proofs.Common.{map}
-use Rattle.mol_faults_support.specs.Met.{kept_met}
+use Rattle.mol_faults_rules.specs.Met.{kept_met}
 use Rattle.mol_faults_support.proofs.OfTargets.{misread-rests}
 use Rattle.mol_faults_support.proofs.misread.misread.Goals as goal
 

@@ -8,7 +8,7 @@ use Rattle.mol_faults_support.specs.Calls.{AreConstructors}
 use Rattle.mol_faults_support.specs.Cells.{cells_of}
 use Rattle.mol_faults_support.proofs.OfValues.{adds-value}
 use Rattle.mol_faults_support.proofs.missing.add_of_value.Goals as goal
-use Rattle.mol_values.specs.declared.cell.Slot.TheVariants as slots
+use Rattle.mol_values_types.specs.declared.cell.Slot.TheVariants as slots
 
 pub returns : goal.returns
 returns c =

@@ -4,7 +4,7 @@ use Rattle.mol_faults_support.specs.Cells.{address_of, cells_of}
 use Rattle.mol_faults_support.specs.Ways.{AreBetweenOwners}
 use Rattle.mol_faults_support.proofs.ByFault.{over-rests}
 use Rattle.mol_faults_support.proofs.pairs.false_override.Goals as goal
-use Rattle.mol_values.specs.declared.cell.Slot.TheVariants as slots
+use Rattle.mol_values_types.specs.declared.cell.Slot.TheVariants as slots
 
 pub returns : goal.returns
 returns c =

@@ -3,7 +3,7 @@ use Rattle.std.specs.List.{flat_map}
 use Rattle.mol_faults_support.specs.Cells.{cells_of}
 use Rattle.mol_faults_support.proofs.ByFault.{package-rests}
 use Rattle.mol_faults_support.proofs.pairs.package_is_class.Goals as goal
-use Rattle.mol_values.specs.declared.cell.Slot.TheVariants as slots
+use Rattle.mol_values_types.specs.declared.cell.Slot.TheVariants as slots
 
 pub returns : goal.returns
 returns c = λ program.

@@ -1,7 +1,7 @@
 use Rattle.std.proofs.Common.{map}
 use Rattle.std.proofs.lemmas.Result.{IfOk-weaker}
 use Rattle.mol_faults_support.proofs.Arms.{arm, misread-arm, clash-arm}
-use Rattle.mol_faults_support.specs.Met.{kept_met}
+use Rattle.mol_faults_rules.specs.Met.{kept_met}
 use Rattle.mol_faults_support.proofs.supports.rests_on.Goals as goal
 
 pub returns-in-SameAddress : goal.returns-in-SameAddress

@@ -4,7 +4,7 @@ use Rattle.mol_base.specs.declared.ident.Id.{Id}
 use Rattle.mol_faults_support.proofs.Among.{tested}
 use Rattle.mol_faults_support.proofs.Going.{Goes, goes-start, goes-met, goes-end, goes-out, goes-more}
 use Rattle.mol_faults_support.proofs.ways.go_up.Goals as goal
-use Rattle.mol_values.specs.Order.{id_eq}
+use Rattle.mol_values_types.specs.Order.{id_eq}
 
 not-true : (b : Bool) → not b ≡ true → b ≡ false
 not-true true is = absurd (true≢false (sym is))

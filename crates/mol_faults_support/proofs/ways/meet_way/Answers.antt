@@ -4,8 +4,8 @@ use Rattle.std.specs.FinMap.{len}
 use Rattle.mol_base.specs.declared.ident.Id.{Id}
 use Rattle.mol_faults_support.proofs.Owners.{many, met-way-closed, met-way-is}
 use Rattle.mol_faults_support.specs.Ways.{fresh_way}
-use Rattle.mol_table.specs.Ancestors.{unmet, walk}
-use Rattle.mol_table.specs.Program.{Program}
+use Rattle.mol_table_rules.specs.Ancestors.{unmet, walk}
+use Rattle.mol_table_rules.specs.Program.{Program}
 use Rattle.mol_faults_support.proofs.ways.meet_way.Goals as goal
 
 -- one step more than there are known identities

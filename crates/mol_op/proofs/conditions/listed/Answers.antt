@@ -1,5 +1,5 @@
 use Rattle.std.proofs.Common.{◌∙◌, sym, ap, subst, Option, Some}
-use Rattle.mol_values.specs.declared.known.Known.{Known}
+use Rattle.mol_values_types.specs.declared.known.Known.{Known}
 use Rattle.mol_op.specs.Tests.{IsVerdict, list_fault}
 use Rattle.mol_op.proofs.conditions.listed.Goals as goal
 

@@ -1,6 +1,6 @@
 use Rattle.std.proofs.Common.{◌∙◌, sym, ap, []}
 use Rattle.std.specs.FinMap.{get}
-use Rattle.mol_table.specs.Mentions.{type_mentions}
+use Rattle.mol_table_rules.specs.Mentions.{type_mentions}
 use Rattle.mol_op.specs.Rows.{param_tests}
 use Rattle.mol_op.specs.Tests.{lists, list_fault, mentions_fault, tests_fault}
 use Rattle.mol_op.proofs.Mentioned.{refused}

@@ -1,5 +1,5 @@
 use Rattle.std.proofs.Common.{◌≡◌, drop}
-use Rattle.mol_values.specs.declared.known.Known.TheVariants as knowns
+use Rattle.mol_values_types.specs.declared.known.Known.TheVariants as knowns
 use Rattle.mol_op.specs.Rows.{param_tests}
 use Rattle.mol_op.specs.Tests.{makes, tests_fault}
 use Rattle.mol_op.specs.Parts.{own-at}

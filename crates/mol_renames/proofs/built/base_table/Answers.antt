@@ -1,7 +1,7 @@
 use Rattle.std.proofs.Common.{sym, subst, List}
-use Rattle.mol_table.specs.Program.{Program}
-use Rattle.mol_table.specs.Writes.{AreNew}
-use Rattle.mol_table.specs.declared.entity.NewEntity.{NewEntity}
+use Rattle.mol_table_rules.specs.Program.{Program}
+use Rattle.mol_table_rules.specs.Writes.{AreNew}
+use Rattle.mol_table_rules.specs.declared.entity.NewEntity.{NewEntity}
 use Rattle.mol_renames.specs.Addresses.{address_pairs}
 use Rattle.mol_renames.proofs.BasePrograms.{base_new}
 use Rattle.mol_renames.proofs.built.base_table.Goals as goal

@@ -1,7 +1,7 @@
 use Rattle.std.proofs.Common.{◌<◌, ◌+◌, Bool, true, false, ◌&&◌, not, if◌then◌else◌, ◌≡◌, ◌++◌, ◌∷◌, [], ◌∙◌, refl, sym, ap, subst, length, is_some, arith, true≢false}
 use Rattle.std.proofs.lemmas.Bool.{false_from_ne_true}
-use Rattle.mol_table.specs.Life.{lives}
-use Rattle.mol_values.specs.declared.cell.Slot.TheVariants as slots
+use Rattle.mol_table_rules.specs.Life.{lives}
+use Rattle.mol_values_types.specs.declared.cell.Slot.TheVariants as slots
 use Rattle.mol_renames.specs.Cells.{has}
 use Rattle.mol_renames.specs.Rows.{class_in, classes_in}
 use Rattle.mol_renames.proofs.Living.{AddUp, all_done, shown, not_shown, map_end}

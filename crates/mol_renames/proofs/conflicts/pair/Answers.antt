@@ -1,9 +1,9 @@
 use Rattle.std.proofs.Common.{◌≡◌, ap, sym, ◌∙◌, false, true, cond, subst}
 use Rattle.std.specs.Prelude.{Option, None, Some, IfOk}
-use Rattle.mol_table.specs.Life.{lives}
-use Rattle.mol_table.specs.Program.{cell}
-use Rattle.mol_values.specs.declared.cell.Cell.{Cell}
-use Rattle.mol_values.specs.declared.cell.Slot.TheVariants as slots
+use Rattle.mol_table_rules.specs.Life.{lives}
+use Rattle.mol_table_rules.specs.Program.{cell}
+use Rattle.mol_values_types.specs.declared.cell.Cell.{Cell}
+use Rattle.mol_values_types.specs.declared.cell.Slot.TheVariants as slots
 use Rattle.mol_renames.specs.LastWrites.{write_in}
 use Rattle.mol_renames.specs.Merge.{differing, twice_at}
 use Rattle.mol_renames.specs.Writes.{last}

@@ -1,9 +1,9 @@
 use Rattle.std.proofs.Common.{◌≡◌, ◌∙◌, sym, true, false}
 use Rattle.std.specs.Prelude.{Some}
 use Rattle.std.specs.Str.{bytes_eq}
-use Rattle.mol_table.specs.Program.{cell}
-use Rattle.mol_values.specs.declared.cell.Cell.{Cell}
-use Rattle.mol_values.specs.declared.cell.Slot.TheVariants as slots
+use Rattle.mol_table_rules.specs.Program.{cell}
+use Rattle.mol_values_types.specs.declared.cell.Cell.{Cell}
+use Rattle.mol_values_types.specs.declared.cell.Slot.TheVariants as slots
 use Rattle.mol_renames.specs.LastWrites.{new_name}
 use Rattle.mol_renames.proofs.NameValues.{differ_not, differ_so}
 use Rattle.mol_renames.proofs.conflicts.twice.Goals as goal

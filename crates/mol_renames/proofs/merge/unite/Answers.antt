@@ -1,5 +1,5 @@
 use Rattle.std.proofs.Common.{◌≡◌, ap, ◌∙◌}
-use Rattle.mol_table.specs.Program.{Program}
+use Rattle.mol_table_rules.specs.Program.{Program}
 use Rattle.mol_renames.specs.Faults.{same_addresses, classes_of}
 use Rattle.mol_renames.specs.Merge.{united_in_order, conflicts_in_order}
 use Rattle.mol_renames.specs.Rows.{classes_in}

@@ -1,7 +1,7 @@
 use Rattle.std.proofs.Common.{◌≡◌, ap, ◌∙◌, map, subst, List}
 use Rattle.std.specs.Prelude.{IfOk, Option}
-use Rattle.mol_values.specs.declared.cell.Cell.{Cell}
-use Rattle.mol_values.specs.declared.value.Value.{Value}
+use Rattle.mol_values_types.specs.declared.cell.Cell.{Cell}
+use Rattle.mol_values_types.specs.declared.value.Value.{Value}
 use Rattle.mol_renames.specs.Faults.{Class}
 use Rattle.mol_renames.specs.Renaming.{renamed}
 use Rattle.mol_renames.specs.Rows.{classes_in}

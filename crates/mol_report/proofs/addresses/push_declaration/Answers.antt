@@ -3,7 +3,7 @@ use Rattle.std.specs.FinMap.{get}
 use Rattle.std.specs.Fmt.{decimal}
 use Rattle.std.proofs.lemmas.List.{append_assoc}
 use Rattle.mol_report.specs.Labels.{owner_text}
-use Rattle.mol_table.specs.Program.{owner_at, params_at}
+use Rattle.mol_table_rules.specs.Program.{owner_at, params_at}
 use Rattle.mol_report.proofs.DeclarationAddresses.{declaration-address}
 use Rattle.mol_report.proofs.addresses.push_declaration.Goals as goal
 

@@ -3,9 +3,9 @@ use Rattle.std.specs.List.{find}
 use Rattle.std.specs.Option.{option_and_then, option_map_or}
 use Rattle.mol_base.specs.declared.ident.Id.{Id}
 use Rattle.mol_resolve_rules.specs.StaticTypes.{present_param}
-use Rattle.mol_table.specs.Program.{Program, same_id, params_at, method_in}
-use Rattle.mol_values.proofs.Ties.{id_ties}
-use Rattle.mol_values.specs.declared.param.Param.{Param}
+use Rattle.mol_table_rules.specs.Program.{Program, same_id, params_at, method_in}
+use Rattle.mol_values_types.proofs.Ties.{id_ties}
+use Rattle.mol_values_types.specs.declared.param.Param.{Param}
 use Rattle.mol_report.proofs.labels.param_name.Goals as goal
 
 abbrev first_of : Program → Id → Id → Option Param

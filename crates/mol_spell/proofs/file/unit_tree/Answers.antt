@@ -3,7 +3,7 @@ use Rattle.mol_spell_names.proofs.program_index_lemmas.UsesKept.{found-lives}
 use Rattle.mol_spell_rules.specs.SimpleNames.{uses_in}
 use Rattle.mol_spell.proofs.FilesSpelt.{tree-as}
 use Rattle.mol_spell.proofs.file.unit_tree.Goals as goal
-use Rattle.mol_table.specs.Program.{Program}
+use Rattle.mol_table_rules.specs.Program.{Program}
 
 pub tree_by_uses-requires-clause-table : goal.tree_by_uses-requires-clause-table
 tree_by_uses-requires-clause-table c = c.members-members.ensures ∙ sym c.names-index.ensures

@@ -4,7 +4,7 @@ use Rattle.mol_spell_rules.specs.SpelledUnits.{spelling}
 use Rattle.mol_spell.proofs.FilesSpelt.{spelled-once_tidied}
 use Rattle.mol_spell.proofs.spelling.spell.Goals as goal
 use Rattle.mol_spell.specs.Spelt.{spelled_of}
-use Rattle.mol_table.specs.Program.{Program}
+use Rattle.mol_table_rules.specs.Program.{Program}
 
 pub returns : goal.returns
 returns c =

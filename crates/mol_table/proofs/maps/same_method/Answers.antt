@@ -1,6 +1,6 @@
 use Rattle.std.proofs.Common.{◌∙◌, sym}
-use Rattle.mol_table.specs.Counting.{same_method}
-use Rattle.mol_values.proofs.Ties.{id_ties}
+use Rattle.mol_table_rules.specs.Counting.{same_method}
+use Rattle.mol_values_types.proofs.Ties.{id_ties}
 use Rattle.mol_table.proofs.maps.same_method.Goals as goal
 
 pub returns-in-Some-Some : goal.returns-in-Some-Some

@@ -3,6 +3,7 @@ use Rattle.std.proofs.lemmas.Result.{err_from_is_err_and}
 use Rattle.mol_top.proofs.BaseStops.{base_stopped, program_stopped}
 use Rattle.mol_top.proofs.CheckedBases.{check_prepared}
 use Rattle.mol_top.proofs.ReadBases.{base_carries, unclean_carries}
+use Rattle.mol_top.proofs.renames.Working.{none_written}
 use Rattle.mol_top.proofs.checking.prepare_check.Goals as goal
 use Rattle.mol_top.specs.Command.{Command, check_paths}
 use Rattle.mol_top.specs.Outside.{store}
@@ -41,3 +42,6 @@ pub returns-in-Ok-clause-work : goal.returns-in-Ok-clause-work
 returns-in-Ok-clause-work g c =
     check_prepared (check_words c.args.words) (store g.F.Files c.args.files.now) c.in_ok-base.base c.in-Ok.work c.in_ok-base.ensures.base
     c.rules.ensures c.in_ok-refuse_unclean_table.ensures.clean c.in-Ok.ensures
+
+pub returns-in-Ok-clause-inside : goal.returns-in-Ok-clause-inside
+returns-in-Ok-clause-inside g c = none_written c.in-Ok.work (check_paths (check_words c.args.words)) c.in-Ok.ensures.files

@@ -1,11 +1,10 @@
-use Rattle.std.specs.Option.{ForSome}
 use Rattle.std.proofs.lemmas.Result.{IfErr-weaker, IfOk-weaker}
 use Rattle.mol_base.specs.Files.{file_pairs}
 use Rattle.mol_top.proofs.BaseStops.{files_stopped, unread_stopped}
 use Rattle.mol_top.proofs.ReadBases.{program_read, refused_carries, unread_carries}
 use Rattle.mol_top.proofs.clean_base.read_base_program.Goals as goal
 use Rattle.mol_top.specs.CleanBases.{CarriesBase, IsBaseStopped, IsProgramOf, IsReadOf}
-use Rattle.mol_top.specs.Outside.{store}
+use Rattle.mol_top.specs.Outside.{IfTold, store}
 use Rattle.mol_top.specs.Refused.{IsRefusalOfFiles}
 
 pub returns-in-Ok-clause-base : goal.returns-in-Ok-clause-base
@@ -13,7 +12,7 @@ returns-in-Ok-clause-base g c =
     let base = c.args.base.now in
     let read = c.in-Ok.read.items in
     IfOk-weaker c.base_program.result (IsProgramOf (file_pairs read))
-    (λ made. ForSome (g.F.Files.holds c.args.files.now) (λ h. IsReadOf base h made))
+    (λ made. IfTold (g.F.Files.holds c.args.files.now) (λ h. IsReadOf base h made))
     (λ made is h e. program_read base h read made (c.in-Ok.ensures.base h e) is) (rw c.as_slice.ensures.value at c.base_program.ensures.program)
 
 pub returns-in-Ok-clause-stop : goal.returns-in-Ok-clause-stop

@@ -1,8 +1,8 @@
 use Rattle.std.proofs.Common.{◌≡◌, ◌∙◌, inl, sym, ap, subst}
 use Rattle.std.specs.Prelude.{IfErr, OnOk}
 use Rattle.mol_spell_rules.specs.Clean.{Clean}
-use Rattle.mol_table.specs.Program.{Program}
-use Rattle.mol_table.specs.Tidy.{tidy}
+use Rattle.mol_table_rules.specs.Program.{Program}
+use Rattle.mol_table_rules.specs.Tidy.{tidy}
 use Rattle.mol_top.proofs.clean_base.refuse_unclean_table.Goals as goal
 use Rattle.mol_top.specs.Refused.{IsRefusalOfProgram}
 

@@ -3,6 +3,8 @@ use Rattle.std.proofs.lemmas.Result.{err_from_is_err_and}
 use Rattle.mol_top.proofs.FormattedFiles.{allowed, occupied, too_large}
 use Rattle.mol_top.proofs.formatting.formatted.Goals as goal
 use Rattle.mol_top.specs.Outside.{store}
+use Rattle.mol_top.proofs.renames.Working.{inside_below}
+use Rattle.mol_base.specs.Files.{file_pairs}
 
 pub returns-in_err-check_out-clause-stop : goal.returns-in_err-check_out-clause-stop
 returns-in_err-check_out-clause-stop g c =
@@ -24,3 +26,7 @@ returns-clause-work g c = λ h e. record {
       at c.in_ok-refuse_large.ensures.allowed);
   is = rw c.in_ok-texts.ensures.texts at c.in_ok-text_work.ensures;
 }
+
+pub returns-clause-inside : goal.returns-clause-inside
+returns-clause-inside g c =
+    inside_below c.in_ok-text_work.field-0 c.args.out.now (file_pairs c.in_ok-texts.field-0.texts.items) c.in_ok-text_work.ensures.files

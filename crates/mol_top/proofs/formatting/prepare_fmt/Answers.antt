@@ -53,3 +53,6 @@ returns-clause-carries g c =
     let table = c.in_ok-base.base.table in
     IfErr-weaker c.program_work.result (IsProgramStopped w.out table mid new) (λ refusal. CarriesOwn (fmt_paths w) refusal.status)
     (λ refusal is. work_carries w table mid new refusal is) c.program_work.ensures.stop
+
+pub returns-clause-inside : goal.returns-clause-inside
+returns-clause-inside g c = c.program_work.ensures.inside

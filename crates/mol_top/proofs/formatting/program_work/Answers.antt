@@ -1,7 +1,7 @@
 use Rattle.std.proofs.Common.{◌≡◌, ◌∙◌, inl, sym, ap, subst}
 use Rattle.std.specs.Prelude.{IfErr, IfOk}
-use Rattle.mol_table.specs.Program.{Program}
-use Rattle.mol_table.specs.Tidy.{tidy}
+use Rattle.mol_table_rules.specs.Program.{Program}
+use Rattle.mol_table_rules.specs.Tidy.{tidy}
 use Rattle.mol_top.proofs.formatting.program_work.Goals as goal
 use Rattle.mol_top.specs.Outside.{store}
 use Rattle.mol_top.specs.ProgramWork.{IsCleanWork, IsProgramStopped}

@@ -8,7 +8,7 @@ use super::values::push_value;
 use mol_base::OutOfMemory;
 use mol_renames::{Conflict, ConflictKind, push_number};
 use mol_table::Table;
-use mol_values::{Cell, Value};
+use mol_values_types::{Cell, Value};
 use std::alloc::Global;
 
 /// The report of conflicts over the base whose addresses it names: the number of conflicts, and a line

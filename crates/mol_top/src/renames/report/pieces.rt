@@ -1,14 +1,14 @@
 //! Pieces of the lines of reports, each appended to a vector of bytes.
 ghost use Rattle.std.specs.Prelude.{◌≡◌, ◌++◌, ◌∷◌, OnOk};
 ghost use Rattle.mol_base.specs.Identity.{spelled_stamp};
-ghost use Rattle.mol_table.specs.Program.{value_at};
+ghost use Rattle.mol_table_rules.specs.Program.{value_at};
 ghost use Rattle.mol_renames.specs.Faults.{text_in};
 ghost use Rattle.mol_top.specs.renames.ConflictReport.{label_of, id_text, cell_text, slot_text, fault_text, stamps_text};
 
 use mol_base::{Id, OutOfMemory, Stamp};
 use mol_renames::Fault;
 use mol_table::Table;
-use mol_values::{Cell, Slot, Value};
+use mol_values_types::{Cell, Slot, Value};
 use std::alloc::Global;
 
 /// Appends an identity and, in brackets, its address in the base or `added`.

@@ -5,7 +5,7 @@ ghost use Rattle.serde_json.specs.Written.{compact_text};
 ghost use Rattle.mol_top.specs.renames.ValueText.{texts_data, type_words, value_data};
 
 use mol_base::{OutOfMemory, Text};
-use mol_values::{IType, Notes, Value};
+use mol_values_types::{IType, Notes, Value};
 use serde_json::{Value as Json, json};
 use std::alloc::Global;
 

@@ -1,5 +1,5 @@
 use Rattle.std.proofs.Common.{sym, subst}
-use Rattle.mol_table.specs.Renumber.{MayRenumber}
+use Rattle.mol_table_rules.specs.Renumber.{MayRenumber}
 use Rattle.test_table.proofs.NumberedClasses.{classes-may}
 use Rattle.test_table.proofs.classes.numbered_classes.Goals as goal
 

@@ -1,7 +1,7 @@
 use Rattle.std.proofs.Common.{sym, subst, List}
-use Rattle.mol_table.specs.Program.{Program, nothing}
-use Rattle.mol_table.specs.Writes.{AreNew}
-use Rattle.mol_table.specs.declared.entity.NewEntity.{NewEntity}
+use Rattle.mol_table_rules.specs.Program.{Program, nothing}
+use Rattle.mol_table_rules.specs.Writes.{AreNew}
+use Rattle.mol_table_rules.specs.declared.entity.NewEntity.{NewEntity}
 use Rattle.test_table.proofs.NumberedClasses.{classes-added}
 use Rattle.test_table.proofs.classes.recorded_classes.Goals as goal
 

@@ -3,7 +3,7 @@ use Rattle.mol_faults_entities.proofs.override_faults_lemmas.PairsAbove.{eq-is, 
 use Rattle.mol_faults_entities.proofs.override_faults.overridden.pair_above.Goals.{then-eq, else-eq}
 use Rattle.mol_faults_entities.proofs.override_faults.overridden.pair_above.Goals as goal
 use Rattle.mol_faults_entities.specs.pair_faults.Pairs.{ordered_pair}
-use Rattle.mol_values.specs.Order.{id_eq}
+use Rattle.mol_values_types.specs.Order.{id_eq}
 
 pub returns-then-eq-2 : goal.returns-then-eq-2
 returns-then-eq-2 c =

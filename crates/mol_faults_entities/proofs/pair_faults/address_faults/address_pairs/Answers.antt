@@ -8,7 +8,7 @@ use Rattle.mol_faults_entities.proofs.pair_faults_lemmas.Keys.{key-order}
 use Rattle.mol_faults_entities.proofs.pair_faults_lemmas.Rows.{shared-pairs}
 use Rattle.mol_faults_entities.proofs.pair_faults_lemmas.SharedPairs.{key_at}
 use Rattle.mol_faults_entities.proofs.pair_faults.address_faults.address_pairs.Goals as goal
-use Rattle.mol_table.specs.Faults.{SameAddress}
+use Rattle.mol_table_rules.specs.Faults.{SameAddress}
 
 pub returns : goal.returns
 returns c =

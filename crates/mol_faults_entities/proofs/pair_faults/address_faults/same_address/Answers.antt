@@ -8,7 +8,7 @@ use Rattle.mol_faults_entities.proofs.pair_faults_lemmas.AddressFaults.{address-
 use Rattle.mol_faults_entities.proofs.pair_faults_lemmas.PairFaults.{pair-faults}
 use Rattle.mol_faults_entities.proofs.pair_faults_lemmas.PairsOrdered.{pair_same}
 use Rattle.mol_faults_entities.proofs.pair_faults.address_faults.same_address.Goals as goal
-use Rattle.mol_table.specs.Faults.{SameAddress}
+use Rattle.mol_table_rules.specs.Faults.{SameAddress}
 
 pub in_order-pairs-requires : goal.in_order-pairs-requires
 in_order-pairs-requires c = pair_same

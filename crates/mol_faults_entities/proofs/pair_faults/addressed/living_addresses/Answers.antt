@@ -5,7 +5,7 @@ use Rattle.mol_faults_entities.proofs.pair_faults_lemmas.MadeRows.{rows-made, ro
 use Rattle.mol_faults_entities.proofs.pair_faults_lemmas.Rows.{located-making}
 use Rattle.mol_faults_entities.proofs.pair_faults.addressed.living_addresses.Goals as goal
 use Rattle.mol_faults_entities.proofs.pair_faults.addressed.living_addresses.Goals.{then-lives+in-Some+else-is_err, then-lives+in_default, else-lives}
-use Rattle.mol_table.specs.Faults.{address}
+use Rattle.mol_table_rules.specs.Faults.{address}
 
 pub loop-id-preserved : goal.loop-id-preserved
 loop-id-preserved c =

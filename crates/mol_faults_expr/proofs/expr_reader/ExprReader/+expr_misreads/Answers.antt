@@ -8,16 +8,16 @@ use Rattle.mol_faults_expr.proofs.NotedMore.{noted-both, noted-first, noted-more
 use Rattle.mol_faults_expr.proofs.ReadHere.{class-is, reads-so}
 use Rattle.mol_faults_expr.specs.Names.{field_on_reference, index_reference, method_on_reference, outside_call_reference, outside_field_reference, outside_on_reference, outside_super_reference, super_reference}
 use Rattle.mol_faults_expr.specs.Noted.{noted_after}
-use Rattle.mol_faults_expr.specs.References.{all_references, argument_references, created_references, expr_references, outside_field_references, outside_received, received_references, references_as, static_type, type_references, value_field_references}
+use Rattle.mol_faults_expr.specs.References.{all_references, argument_references, expr_references, outside_field_references, outside_received, received_references, references_as, static_type, type_references, value_field_references}
 use Rattle.mol_spell_rules.specs.references.References.{index_target}
 use Rattle.mol_resolve_rules.specs.ProgramViews.{program_view}
 use Rattle.mol_resolve_rules.specs.StaticTypes.{class_of_only_declaration, field_value, result_value}
 use Rattle.mol_spell_rules.specs.SpelledExpressions.{call_form, call_reference, constructor_reference, name_of, static_call_form}
 use Rattle.mol_spell_rules.specs.Writers.{index_asked}
-use Rattle.mol_values.specs.declared.iexpr.Argument.{Argument}
+use Rattle.mol_values_types.specs.declared.iexpr.Argument.{Argument}
 use Rattle.mol_faults_expr.proofs.expr_reader.ExprReader.+expr_misreads.Goals as goal
 use Rattle.mol_faults_expr.proofs.Nodes as nodes
-use Rattle.mol_values.specs.declared.iexpr.IExpr.TheVariants as exprs
+use Rattle.mol_values_types.specs.declared.iexpr.IExpr.TheVariants as exprs
 use Rattle.mol_spell_expr.specs.declared.type_place.TypePlace.TheVariants as places
 
 pub expr-returns-in-Lit : goal.expr-returns-in-Lit
@@ -385,8 +385,8 @@ outside_creation-returns g t c =
     let locals = g.N.Names.locals c.args.self.now.names.now in
     let misreads = c.args.misreads.now in
     record {
-      noted = noted-both writer misreads _ _ (created_references writer locals (length c.args.args.now) c.args.ty.now)
-          (all_references writer locals c.args.args.now) c.in_ok-note_created.ensures c.in_ok-all.ensures;
+      noted = noted-both writer misreads _ _ (type_references writer locals places.Expression c.args.ty.now)
+          (all_references writer locals c.args.args.now) c.in_ok-note_type.ensures c.in_ok-all.ensures;
       typed = refl;
     }
 

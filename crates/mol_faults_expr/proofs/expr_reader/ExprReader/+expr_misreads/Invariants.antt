@@ -4,10 +4,10 @@ use denote.Param.Weighed.{most}
 use Rattle.mol_faults_expr.proofs.expr_reader.ExprReader.+expr_misreads.Given as goal
 use Rattle.mol_faults_expr.specs.Noted.{noted_after}
 use Rattle.mol_faults_expr.specs.References.{all_references, argument_references}
-use Rattle.mol_values.proofs.iexpr.Argument.TheLaws.{the_size as argument_size}
-use Rattle.mol_values.proofs.iexpr.IExpr.TheLaws.{the_size}
-use Rattle.mol_values.specs.declared.iexpr.Argument.{Argument}
-use Rattle.mol_values.specs.declared.iexpr.IExpr.{IExpr}
+use Rattle.mol_values_types.proofs.iexpr.Argument.TheLaws.{the_size as argument_size}
+use Rattle.mol_values_types.proofs.iexpr.IExpr.TheLaws.{the_size}
+use Rattle.mol_values_types.specs.declared.iexpr.Argument.{Argument}
+use Rattle.mol_values_types.specs.declared.iexpr.IExpr.{IExpr}
 
 -- the greatest size of several
 abbrev highest : List IExpr → ℕ

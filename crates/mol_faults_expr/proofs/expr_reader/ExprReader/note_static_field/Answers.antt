@@ -4,7 +4,7 @@ use Rattle.mol_faults_expr.proofs.SimpleNames.{field-reads, noted-simply, otherw
 use Rattle.mol_faults_expr.specs.Kept.{mode_of}
 use Rattle.mol_faults_expr.specs.Noted.{note}
 use Rattle.mol_spell_rules.specs.SpelledExpressions.{asks_name, by_name, field_reference, on_owner, reads_field}
-use Rattle.mol_table.specs.Program.{owner_at}
+use Rattle.mol_table_rules.specs.Program.{owner_at}
 use Rattle.mol_faults_expr.proofs.expr_reader.ExprReader.note_static_field.Goals as goal
 
 pub returns-then-reads_field : goal.returns-then-reads_field

@@ -5,7 +5,7 @@ use Rattle.mol_base.proofs.Added.{adds, adds-both, adds-more, adds-none, adds-wh
 use Rattle.mol_faults_mentions.proofs.mentions_lemmas.Statements as statements
 use Rattle.mol_faults_mentions.proofs.mentions.body.+statement.Goals as goal
 use Rattle.mol_faults_mentions.specs.mentions.Parts.{each_argument, each_expr, if_mentions, statement_mentions, statements_mentions}
-use Rattle.mol_table.specs.Mentions.{a_constructor, block_mentions, maybe_mentions, named, start_mentions}
+use Rattle.mol_table_rules.specs.Mentions.{a_constructor, block_mentions, maybe_mentions, named, start_mentions}
 
 -- # Each kind of statement
 

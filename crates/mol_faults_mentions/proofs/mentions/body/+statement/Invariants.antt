@@ -3,12 +3,12 @@ use Rattle.std.proofs.Common.{◌≡◌, ◌+◌, ◌*◌, ◌++◌, drop}
 use denote.Param.Weighed.{most}
 use Rattle.mol_faults_mentions.specs.mentions.Parts.{statements_mentions}
 use Rattle.mol_faults_mentions.proofs.mentions.body.+statement.Given as goal
-use Rattle.mol_values.proofs.iblock.IBlock.TheLaws.{the_size as block_size}
-use Rattle.mol_values.proofs.iblock.IElse.TheLaws.{the_size as else_size}
-use Rattle.mol_values.proofs.iblock.IIf.TheLaws.{the_size as if_size}
-use Rattle.mol_values.proofs.iblock.IStmt.TheLaws.{the_size as statement_size}
-use Rattle.mol_values.proofs.iblock.IStmtNode.TheLaws.{the_size as node_size}
-use Rattle.mol_values.specs.declared.iblock.IStmt.{IStmt}
+use Rattle.mol_values_types.proofs.iblock.IBlock.TheLaws.{the_size as block_size}
+use Rattle.mol_values_types.proofs.iblock.IElse.TheLaws.{the_size as else_size}
+use Rattle.mol_values_types.proofs.iblock.IIf.TheLaws.{the_size as if_size}
+use Rattle.mol_values_types.proofs.iblock.IStmt.TheLaws.{the_size as statement_size}
+use Rattle.mol_values_types.proofs.iblock.IStmtNode.TheLaws.{the_size as node_size}
+use Rattle.mol_values_types.specs.declared.iblock.IStmt.{IStmt}
 
 abbrev pub decreases-add_block : goal.decreases-add_block
 decreases-add_block l = 4 * block_size l.block.now

@@ -3,7 +3,7 @@ use Rattle.std.proofs.lemmas.Result.{on_ok_weaker}
 use Rattle.mol_base.proofs.Added.{adds, adds-both}
 use Rattle.mol_faults_mentions.proofs.mentions.body.add_let.Goals as goal
 use Rattle.mol_faults_mentions.specs.mentions.Parts.{names_mentions}
-use Rattle.mol_table.specs.Mentions.{type_mentions}
+use Rattle.mol_table_rules.specs.Mentions.{type_mentions}
 
 pub returns : goal.returns
 returns c =

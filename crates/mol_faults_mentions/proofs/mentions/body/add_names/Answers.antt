@@ -2,8 +2,8 @@ use Rattle.std.proofs.Common.{refl}
 use Rattle.mol_base.proofs.Added.{adds-more, adds-whole}
 use Rattle.mol_faults_mentions.proofs.mentions.body.add_names.Goals as goal
 use Rattle.mol_faults_mentions.specs.mentions.Parts.{names_mentions}
-use Rattle.mol_table.specs.Mentions.{maybe_mentions}
-use Rattle.mol_values.specs.declared.iblock.IDeclarator.{IDeclarator}
+use Rattle.mol_table_rules.specs.Mentions.{maybe_mentions}
+use Rattle.mol_values_types.specs.declared.iblock.IDeclarator.{IDeclarator}
 
 pub loop-name-preserved : goal.loop-name-preserved
 loop-name-preserved c =

@@ -4,7 +4,7 @@ use Rattle.mol_base.proofs.Added.{adds, adds-none}
 use Rattle.mol_faults_mentions.proofs.mentions_lemmas.Nodes.{exprs-each}
 use Rattle.mol_faults_mentions.proofs.mentions.body.add_start.Goals as goal
 use Rattle.mol_faults_mentions.specs.mentions.Parts.{each_expr}
-use Rattle.mol_table.specs.Mentions.{start_mentions}
+use Rattle.mol_table_rules.specs.Mentions.{start_mentions}
 
 pub returns-in-None : goal.returns-in-None
 returns-in-None c = adds-none c.args.mentions.now _ (ap start_mentions c.in-None.is)

@@ -4,7 +4,7 @@ use Rattle.std.proofs.lemmas.Result.{on_ok_weaker}
 use Rattle.mol_base.proofs.Added.{adds, adds-none}
 use Rattle.mol_faults_mentions.proofs.mentions_lemmas.Types as types
 use Rattle.mol_faults_mentions.proofs.mentions.expressions.+add_type.Goals as goal
-use Rattle.mol_table.specs.Mentions.{type_mentions}
+use Rattle.mol_table_rules.specs.Mentions.{type_mentions}
 
 pub returns-in-Boolean : goal.returns-in-Boolean
 returns-in-Boolean t c = adds-none c.args.mentions.now _ (types.mentions-Boolean c.args.ty.now c.in-Boolean.is)

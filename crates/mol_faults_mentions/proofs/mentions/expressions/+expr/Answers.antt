@@ -5,7 +5,7 @@ use Rattle.mol_base.proofs.Added.{adds, adds-both, adds-more, adds-none, adds-wh
 use Rattle.mol_faults_mentions.proofs.mentions_lemmas.Nodes as nodes
 use Rattle.mol_faults_mentions.proofs.mentions.expressions.+expr.Goals as goal
 use Rattle.mol_faults_mentions.specs.mentions.Parts.{argument_mentions, each_argument, each_expr}
-use Rattle.mol_table.specs.Mentions.{a_called_method, a_constructor, a_field, a_static_method, expr_mentions, named, type_mentions}
+use Rattle.mol_table_rules.specs.Mentions.{a_called_method, a_constructor, a_field, a_static_method, expr_mentions, named, type_mentions}
 
 -- # Each kind of expression
 

@@ -3,10 +3,10 @@ use Rattle.std.proofs.Common.{◌≡◌, ℕ, ◌+◌, ◌*◌, List, ◌++◌, 
 use denote.Param.Weighed.{most}
 use Rattle.mol_faults_mentions.specs.mentions.Parts.{each_argument, each_expr}
 use Rattle.mol_faults_mentions.proofs.mentions.expressions.+expr.Given as goal
-use Rattle.mol_values.proofs.iexpr.Argument.TheLaws.{the_size as argument_size}
-use Rattle.mol_values.proofs.iexpr.IExpr.TheLaws.{the_size}
-use Rattle.mol_values.specs.declared.iexpr.Argument.{Argument}
-use Rattle.mol_values.specs.declared.iexpr.IExpr.{IExpr}
+use Rattle.mol_values_types.proofs.iexpr.Argument.TheLaws.{the_size as argument_size}
+use Rattle.mol_values_types.proofs.iexpr.IExpr.TheLaws.{the_size}
+use Rattle.mol_values_types.specs.declared.iexpr.Argument.{Argument}
+use Rattle.mol_values_types.specs.declared.iexpr.IExpr.{IExpr}
 
 -- the greatest size of several
 abbrev highest : List IExpr → ℕ

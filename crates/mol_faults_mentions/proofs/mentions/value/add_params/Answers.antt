@@ -2,7 +2,7 @@ use Rattle.std.proofs.Common.{refl}
 use Rattle.std.specs.List.{flat_map}
 use Rattle.mol_base.proofs.Added.{adds-more, adds-whole}
 use Rattle.mol_faults_mentions.proofs.mentions.value.add_params.Goals as goal
-use Rattle.mol_table.specs.Mentions.{param_mentions}
+use Rattle.mol_table_rules.specs.Mentions.{param_mentions}
 
 pub loop-param-preserved : goal.loop-param-preserved
 loop-param-preserved c =

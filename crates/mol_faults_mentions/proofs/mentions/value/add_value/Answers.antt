@@ -3,8 +3,8 @@ use Rattle.std.proofs.lemmas.Result.{on_ok_weaker}
 use Rattle.std.specs.List.{flat_map}
 use Rattle.mol_base.proofs.Added.{adds, adds-none}
 use Rattle.mol_faults_mentions.proofs.mentions.value.add_value.Goals as goal
-use Rattle.mol_table.specs.Mentions.{mentions, param_mentions}
-use Rattle.mol_values.specs.declared.value.Value.TheVariants as values
+use Rattle.mol_table_rules.specs.Mentions.{mentions, param_mentions}
+use Rattle.mol_values_types.specs.declared.value.Value.TheVariants as values
 
 pub returns-in-Live : goal.returns-in-Live
 returns-in-Live c = adds-none c.args.mentions.now _ (ap mentions c.in-Live.is)

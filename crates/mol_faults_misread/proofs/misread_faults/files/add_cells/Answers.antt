@@ -4,8 +4,8 @@ use Rattle.mol_faults_misread.proofs.misread_faults_lemmas.SameFile.{all-cells}
 use Rattle.mol_faults_misread.proofs.misread_faults.files.add_cells.Goals as goal
 use Rattle.mol_faults_misread.specs.misread_faults.Found.{kept_name}
 use Rattle.mol_spell_rules.specs.UnitCells.{members_of}
-use Rattle.mol_table.specs.Program.{Program, cell}
-use Rattle.mol_values.specs.declared.cell.Slot.TheVariants as slots
+use Rattle.mol_table_rules.specs.Program.{Program, cell}
+use Rattle.mol_values_types.specs.declared.cell.Slot.TheVariants as slots
 
 pub returns : goal.returns
 returns g c =

@@ -5,7 +5,7 @@ use Rattle.mol_faults_misread.specs.misread_faults.Found.{file_misreads, kept_na
 use Rattle.mol_base.proofs.Added.{adds, adds-none}
 use Rattle.mol_spell_names.proofs.program_index_lemmas.UsesKept.{found-lives, missed-dead}
 use Rattle.mol_spell_rules.specs.SimpleNames.{uses_in}
-use Rattle.mol_table.specs.Program.{Program}
+use Rattle.mol_table_rules.specs.Program.{Program}
 
 pub add_by_uses-requires-clause-table : goal.add_by_uses-requires-clause-table
 add_by_uses-requires-clause-table c = c.members-members.ensures ∙ sym c.names-index.ensures

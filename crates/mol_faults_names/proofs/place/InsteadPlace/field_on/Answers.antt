@@ -9,7 +9,7 @@ use Rattle.mol_faults_names.specs.Reads.{outside_read}
 use Rattle.mol_spell_rules.specs.references.References.{field_target, outside_target}
 use Rattle.mol_resolve_rules.specs.StaticTypes.{field_value}
 use Rattle.mol_spell_rules.specs.Answers.{field_of, on_value_answer}
-use Rattle.mol_table.specs.Program.{Program}
+use Rattle.mol_table_rules.specs.Program.{Program}
 use Rattle.mol_scope.specs.types.Kept.{view_value}
 use Rattle.mol_faults_names.proofs.place.InsteadPlace.field_on.Goals as goal
 

@@ -11,7 +11,7 @@ use Rattle.mol_faults_names.proofs.Members.{through-field, through-none}
 use Rattle.mol_spell_rules.specs.references.References.{field_target}
 use Rattle.mol_resolve_rules.specs.ProgramViews.{program_view}
 use Rattle.mol_resolve_rules.specs.StaticTypes.{field_value}
-use Rattle.mol_table.specs.Program.{Program}
+use Rattle.mol_table_rules.specs.Program.{Program}
 use Rattle.mol_faults_names.proofs.place.InsteadPlace.field_through.Goals as goal
 
 pub returns-then-is_static_field : goal.returns-then-is_static_field

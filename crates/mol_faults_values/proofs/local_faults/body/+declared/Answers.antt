@@ -5,7 +5,7 @@ use Rattle.mol_faults_values.proofs.local_faults_lemmas.InTurn.{stays, goes, goe
 use Rattle.mol_faults_values.proofs.local_faults_lemmas.Scoped as parts
 use Rattle.mol_faults_values.proofs.local_faults.body.+declared.Goals as goal
 use Rattle.mol_faults_values.specs.local_faults.PartScopes.{else_scopes, each_scopes, for_scopes, if_scopes, names_scopes, node_scopes, statement_scopes, statements_scopes}
-use Rattle.mol_values.specs.declared.iblock.IIf.{out-IIf}
+use Rattle.mol_values_types.specs.declared.iblock.IIf.{out-IIf}
 use Rattle.mol_spell_rules.specs.LocalClashes.{block_scopes, declaring, in_block, start_scopes, then_next}
 
 -- # Each kind of statement

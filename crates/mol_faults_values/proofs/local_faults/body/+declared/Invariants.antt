@@ -4,12 +4,12 @@ use denote.Param.Weighed.{most}
 use Rattle.mol_faults_values.specs.local_faults.PartScopes.{statements_scopes}
 use Rattle.mol_faults_values.proofs.local_faults.body.+declared.Given as goal
 use Rattle.mol_spell_rules.specs.LocalClashes.{then_next}
-use Rattle.mol_values.proofs.iblock.IBlock.TheLaws.{the_size as block_size}
-use Rattle.mol_values.proofs.iblock.IElse.TheLaws.{the_size as else_size}
-use Rattle.mol_values.proofs.iblock.IIf.TheLaws.{the_size as if_size}
-use Rattle.mol_values.proofs.iblock.IStmt.TheLaws.{the_size as statement_size}
-use Rattle.mol_values.proofs.iblock.IStmtNode.TheLaws.{the_size as node_size}
-use Rattle.mol_values.specs.declared.iblock.IStmt.{IStmt}
+use Rattle.mol_values_types.proofs.iblock.IBlock.TheLaws.{the_size as block_size}
+use Rattle.mol_values_types.proofs.iblock.IElse.TheLaws.{the_size as else_size}
+use Rattle.mol_values_types.proofs.iblock.IIf.TheLaws.{the_size as if_size}
+use Rattle.mol_values_types.proofs.iblock.IStmt.TheLaws.{the_size as statement_size}
+use Rattle.mol_values_types.proofs.iblock.IStmtNode.TheLaws.{the_size as node_size}
+use Rattle.mol_values_types.specs.declared.iblock.IStmt.{IStmt}
 
 abbrev pub decreases-declare_block : goal.decreases-declare_block
 decreases-declare_block l = 4 * block_size l.block.now

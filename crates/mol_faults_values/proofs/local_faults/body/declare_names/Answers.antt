@@ -2,7 +2,7 @@ use Rattle.std.proofs.Common.{◌∙◌, refl, ap}
 use Rattle.mol_faults_values.proofs.local_faults_lemmas.InTurn.{turn-more, turn-done, kept-own, kept-declared, kept-further}
 use Rattle.mol_faults_values.proofs.local_faults.body.declare_names.Goals as goal
 use Rattle.mol_spell_rules.specs.LocalClashes.{declaring, then_next}
-use Rattle.mol_values.specs.declared.iblock.IDeclarator.{IDeclarator}
+use Rattle.mol_values_types.specs.declared.iblock.IDeclarator.{IDeclarator}
 
 pub loop-declarator-init : goal.loop-declarator-init
 loop-declarator-init c = record { scope = refl; kept = kept-own c.args.scope.now.in_scope }

@@ -2,7 +2,7 @@ use Rattle.std.proofs.Common.{◌∙◌, refl, ap}
 use Rattle.mol_faults_values.proofs.local_faults_lemmas.InTurn.{turn-more, turn-done}
 use Rattle.mol_faults_values.proofs.local_faults.body.declare_params.Goals as goal
 use Rattle.mol_spell_rules.specs.LocalClashes.{declaring, then_next}
-use Rattle.mol_values.specs.declared.param.Param.{Param}
+use Rattle.mol_values_types.specs.declared.param.Param.{Param}
 
 pub loop-param-init : goal.loop-param-init
 loop-param-init c = refl

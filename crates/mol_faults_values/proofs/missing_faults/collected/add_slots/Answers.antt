@@ -2,7 +2,7 @@ use Rattle.std.proofs.Common.{refl}
 use Rattle.mol_faults_values.proofs.missing_faults.collected.add_slots.Goals as goal
 use Rattle.mol_faults_values.specs.missing_faults.Gone.{gone_at, gone_in_slots}
 use Rattle.mol_base.proofs.Added.{adds-whole}
-use Rattle.mol_table.specs.Program.{cell}
+use Rattle.mol_table_rules.specs.Program.{cell}
 
 pub returns : goal.returns
 returns c =

@@ -6,8 +6,8 @@ use Rattle.mol_faults_values.proofs.missing_faults_lemmas.SameRows.{gone-same}
 use Rattle.mol_faults_values.proofs.missing_faults.faults.missing.Goals as goal
 use Rattle.mol_faults_values.specs.missing_faults.Gone.{fault_of, gone_in_all}
 use Rattle.mol_faults_values.specs.declared.missing_faults.gone.Gone.{Gone}
-use Rattle.mol_table.proofs.TidyRules.{tidied-at}
-use Rattle.mol_table.specs.Program.{Program}
+use Rattle.mol_table_rules.proofs.TidyRules.{tidied-at}
+use Rattle.mol_table_rules.specs.Program.{Program}
 
 pub in_order-gone-requires : goal.in_order-gone-requires
 in_order-gone-requires c = gone-same

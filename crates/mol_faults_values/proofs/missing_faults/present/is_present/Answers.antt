@@ -2,10 +2,10 @@ use Rattle.std.proofs.Common.{◌∙◌, false, sym, ap}
 use Rattle.std.specs.List.{list_any}
 use Rattle.std.specs.Option.{option_map_or}
 use Rattle.mol_faults_values.proofs.missing_faults.present.is_present.Goals as goal
-use Rattle.mol_table.specs.Life.{lists}
-use Rattle.mol_table.specs.Program.{same_id}
-use Rattle.mol_values.proofs.Ties.{any_tied}
-use Rattle.mol_values.specs.declared.param.Param.{Param}
+use Rattle.mol_table_rules.specs.Life.{lists}
+use Rattle.mol_table_rules.specs.Program.{same_id}
+use Rattle.mol_values_types.proofs.Ties.{any_tied}
+use Rattle.mol_values_types.specs.declared.param.Param.{Param}
 
 pub returns-in-Some : goal.returns-in-Some
 returns-in-Some c =

@@ -4,7 +4,7 @@ use Rattle.mol_log_rows.specs.lines.Reader.{passing}
 use Rattle.mol_log_rows.specs.declared.lines.object_fault.ObjectFault.TheVariants.{WrongForm}
 use Rattle.mol_log_rows.proofs.lines_lemmas.Refused.{reads_err}
 use Rattle.mol_log_rows.proofs.lines_lemmas.Taken.{reads_and, part_and_without, passes, fails}
-use Rattle.mol_values.specs.TokenForms.{is_filler}
+use Rattle.mol_values_types.specs.TokenForms.{is_filler}
 use Rattle.mol_log_rows.proofs.rows.parts.filler.Goals as goal
 
 pub returns-in_err-text : goal.returns-in_err-text

@@ -3,7 +3,7 @@ use Rattle.serde_json.specs.Find.{as_str}
 use Rattle.mol_log_rows.specs.declared.lines.object_fault.ObjectFault.TheVariants.{WrongForm}
 use Rattle.mol_log_rows.proofs.lines_lemmas.Refused.{reads_err}
 use Rattle.mol_log_rows.proofs.lines_lemmas.Taken.{reads_and, part_and_without}
-use Rattle.mol_values.specs.declared.kind.MethodKind.TheVariants.{Instance, Static}
+use Rattle.mol_values_types.specs.declared.kind.MethodKind.TheVariants.{Instance, Static}
 use Rattle.mol_log_rows.specs.rows.RowReader.{kind_of}
 use Rattle.mol_log_rows.proofs.rows_lemmas.RowTable.{kind_at, no_kind}
 use Rattle.mol_log_rows.proofs.rows.parts.kind.Goals as goal

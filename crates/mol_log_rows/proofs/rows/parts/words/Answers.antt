@@ -4,7 +4,7 @@ use Rattle.mol_log_rows.specs.lines.Reader.{texts_from}
 use Rattle.mol_log_rows.specs.declared.lines.object_fault.ObjectFault.TheVariants.{WrongForm}
 use Rattle.mol_log_rows.proofs.lines_lemmas.Refused.{reads_err}
 use Rattle.mol_log_rows.proofs.lines_lemmas.Taken.{reads_and, part_and_without}
-use Rattle.mol_values.specs.Words.{are_words}
+use Rattle.mol_values_types.specs.Words.{are_words}
 use Rattle.mol_log_rows.specs.rows.RowForms.{words_before}
 use Rattle.mol_log_rows.specs.rows.RowReader.{words_of, words_made}
 use Rattle.mol_log_rows.proofs.rows.parts.words.Goals as goal

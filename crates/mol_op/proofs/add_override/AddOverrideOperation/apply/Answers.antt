@@ -1,5 +1,5 @@
 use Rattle.std.proofs.Common.{◌∙◌, ap}
-use Rattle.mol_table.specs.Writes.{with_entities}
+use Rattle.mol_table_rules.specs.Writes.{with_entities}
 use Rattle.mol_op.specs.Keeping.AddedOne.{override-may, override-written}
 use Rattle.mol_op.proofs.add_override.AddOverrideOperation.apply.Goals as goal
 

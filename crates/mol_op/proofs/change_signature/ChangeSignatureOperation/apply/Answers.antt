@@ -1,8 +1,8 @@
 use Rattle.std.proofs.Common.{◌∙◌, ap, [], ◌∷◌}
-use Rattle.mol_table.specs.Program.{cell}
-use Rattle.mol_table.specs.Writes.{with_value}
-use Rattle.mol_values.specs.declared.cell.Slot.TheVariants as slots
-use Rattle.mol_values.specs.declared.value.Value.TheVariants as values
+use Rattle.mol_table_rules.specs.Program.{cell}
+use Rattle.mol_table_rules.specs.Writes.{with_value}
+use Rattle.mol_values_types.specs.declared.cell.Slot.TheVariants as slots
+use Rattle.mol_values_types.specs.declared.value.Value.TheVariants as values
 use Rattle.mol_op.specs.Changes.{written}
 use Rattle.mol_op.specs.Rows.{write}
 use Rattle.mol_op.specs.Keeping.Signature.{params-there, params-rules, params-written, result-may, signature-written}

@@ -1,6 +1,6 @@
 use Rattle.std.proofs.Common.{◌∙◌, sym}
-use Rattle.mol_table.specs.Mentions.{maybe_mentions}
-use Rattle.mol_values.specs.declared.iblock.IDeclarator.{IDeclarator}
+use Rattle.mol_table_rules.specs.Mentions.{maybe_mentions}
+use Rattle.mol_values_types.specs.declared.iblock.IDeclarator.{IDeclarator}
 use Rattle.mol_op.specs.Seen.{seen_by}
 use Rattle.mol_op.specs.Statements.{names_mentions}
 use Rattle.mol_op.specs.Tests.{mentions_fault}

@@ -1,6 +1,6 @@
 use Rattle.std.proofs.Common.{◌∙◌, sym}
-use Rattle.mol_table.specs.Mentions.{expr_mentions, exprs_mentions, arguments_mentions}
-use Rattle.mol_values.specs.declared.iexpr.Argument.{Argument}
+use Rattle.mol_table_rules.specs.Mentions.{expr_mentions, exprs_mentions, arguments_mentions}
+use Rattle.mol_values_types.specs.declared.iexpr.Argument.{Argument}
 use Rattle.mol_op.specs.Seen.{seen_by}
 use Rattle.mol_op.specs.Tests.{mentions_fault}
 use Rattle.mol_op.proofs.Mentioned.{fault-found, fault-passed, refused}

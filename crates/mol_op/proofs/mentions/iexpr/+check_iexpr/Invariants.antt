@@ -1,5 +1,5 @@
 use Rattle.std.proofs.Common.{◌≡◌, drop}
-use Rattle.mol_table.specs.Mentions.{exprs_mentions, arguments_mentions}
+use Rattle.mol_table_rules.specs.Mentions.{exprs_mentions, arguments_mentions}
 use Rattle.mol_op.specs.Seen.{seen_by}
 use Rattle.mol_op.specs.Tests.{mentions_fault}
 use Rattle.mol_op.proofs.mentions.iexpr.+check_iexpr.Given as goal

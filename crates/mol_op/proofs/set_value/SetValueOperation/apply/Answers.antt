@@ -1,5 +1,5 @@
 use Rattle.std.proofs.Common.{◌∙◌, sym, [], ◌∷◌}
-use Rattle.mol_values.specs.declared.value.Value.TheVariants as values
+use Rattle.mol_values_types.specs.declared.value.Value.TheVariants as values
 use Rattle.mol_op.specs.Changes.{written}
 use Rattle.mol_op.specs.Rows.{write}
 use Rattle.mol_op.specs.Keeping.Sets.{set_value-may, set_value-names}

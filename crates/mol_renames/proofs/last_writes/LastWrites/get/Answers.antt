@@ -1,7 +1,7 @@
 use Rattle.std.proofs.Common.{◌≡◌, ap, ◌∙◌}
 use Rattle.std.specs.Prelude.{option_map, option_copied, slice_get}
-use Rattle.mol_table.specs.Program.{cell}
-use Rattle.mol_values.specs.declared.cell.Slot.TheVariants as slots
+use Rattle.mol_table_rules.specs.Program.{cell}
+use Rattle.mol_values_types.specs.declared.cell.Slot.TheVariants as slots
 use Rattle.mol_renames.specs.LastWrites.{write_in, entry_at}
 use Rattle.mol_renames.specs.declared.log.Log.{Log}
 use Rattle.mol_renames.specs.Writes.{last}

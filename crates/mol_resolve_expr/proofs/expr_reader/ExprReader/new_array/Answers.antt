@@ -9,8 +9,8 @@ use Rattle.mol_resolve_readings.specs.meant.Kept.{view_part}
 use Rattle.mol_resolve_rules.specs.Outcomes.{both}
 use Rattle.mol_resolve_rules.specs.ReadTrees.{arrays, meant, values_of}
 use Rattle.mol_resolve_rules.specs.ReadTypes.{ReadType, read_type}
-use Rattle.mol_values.specs.declared.iexpr.IExpr.{IExpr}
-use Rattle.mol_values.specs.declared.iexpr.IExpr.TheVariants as exprs
+use Rattle.mol_values_types.specs.declared.iexpr.IExpr.{IExpr}
+use Rattle.mol_values_types.specs.declared.iexpr.IExpr.TheVariants as exprs
 use Prim.Native.Nat.{ℕ}
 
 pub returns : goal.returns

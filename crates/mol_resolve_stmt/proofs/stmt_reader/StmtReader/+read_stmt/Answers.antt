@@ -13,8 +13,8 @@ use Rattle.mol_resolve_stmt.proofs.stmt_reader.StmtReader.+read_stmt.Goals as go
 use Rattle.mol_resolve_stmt.specs.Loops.{loop_node}
 use Rattle.mol_resolve_stmt.specs.Made as made
 use Rattle.mol_resolve_stmt.specs.Statements.{else_reading, statement_of}
-use Rattle.mol_values.specs.declared.iblock.IElse.TheVariants as elses
-use Rattle.mol_values.specs.declared.iblock.IStmtNode.TheVariants as values
+use Rattle.mol_values_types.specs.declared.iblock.IElse.TheVariants as elses
+use Rattle.mol_values_types.specs.declared.iblock.IStmtNode.TheVariants as values
 
 -- # Blocks
 

@@ -3,7 +3,7 @@ use Rattle.mol_resolve_readings.specs.locals.Scoped.{locals_of}
 use Rattle.mol_resolve_rules.specs.ReadTrees.{read_expr}
 use Rattle.mol_resolve_stmt.proofs.TreesRead.{tree_read}
 use Rattle.mol_resolve_stmt.proofs.stmt_reader.StmtReader.action.Goals as goal
-use Rattle.mol_values.specs.declared.iblock.IStmtNode.TheVariants as nodes
+use Rattle.mol_values_types.specs.declared.iblock.IStmtNode.TheVariants as nodes
 
 pub returns : goal.returns
 returns g c =

@@ -8,7 +8,7 @@ use Rattle.mol_resolve_stmt.proofs.InTurn.{after_declaring, none_declared}
 use Rattle.mol_resolve_stmt.proofs.stmt_reader.StmtReader.declarator.Goals as goal
 use Rattle.mol_resolve_stmt.specs.GoesOn.{GoesOn}
 use Rattle.mol_resolve_stmt.specs.Made as made
-use Rattle.mol_values.specs.declared.iblock.IDeclarator.{IDeclarator}
+use Rattle.mol_values_types.specs.declared.iblock.IDeclarator.{IDeclarator}
 
 pub returns : goal.returns
 returns g c =

@@ -2,7 +2,7 @@ use Rattle.mol_resolve_readings.specs.locals.Scoped.{locals_of}
 use Rattle.mol_resolve_rules.specs.ReadStatements.{read_let}
 use Rattle.mol_resolve_stmt.proofs.InTurn.{made_on}
 use Rattle.mol_resolve_stmt.proofs.stmt_reader.StmtReader.declared.Goals as goal
-use Rattle.mol_values.specs.declared.iblock.IStmtNode.TheVariants as nodes
+use Rattle.mol_values_types.specs.declared.iblock.IStmtNode.TheVariants as nodes
 
 pub returns : goal.returns
 returns g c =

@@ -5,7 +5,7 @@ use Rattle.mol_resolve_rules.specs.ReadStatements.{ReadsTo, declaring_none, read
 use Rattle.mol_resolve_stmt.proofs.InTurn.{made_on, none_declared, then_on}
 use Rattle.mol_resolve_stmt.proofs.stmt_reader.StmtReader.for_header.Goals as goal
 use Rattle.mol_resolve_stmt.specs.Loops.{for_part}
-use Rattle.mol_values.specs.declared.iexpr.IExpr.{IExpr}
+use Rattle.mol_values_types.specs.declared.iexpr.IExpr.{IExpr}
 
 pub returns : goal.returns
 returns g c =

@@ -5,7 +5,7 @@ use Rattle.mol_resolve_expr.proofs.Outcomes.{made_read}
 use Rattle.mol_resolve_stmt.proofs.InTurn.{fine_on, goes_as, made_on, none_declared}
 use Rattle.mol_resolve_stmt.proofs.TreesRead.{found_read}
 use Rattle.mol_resolve_stmt.proofs.stmt_reader.StmtReader.start.Goals as goal
-use Rattle.mol_values.specs.declared.iblock.IForStart.TheVariants as starts
+use Rattle.mol_values_types.specs.declared.iblock.IForStart.TheVariants as starts
 
 pub returns-in-None : goal.returns-in-None
 returns-in-None g c =

@@ -1,5 +1,5 @@
 use Rattle.std.proofs.Common.{◌∙◌}
-use Rattle.mol_values.proofs.Ties.{id_ties}
+use Rattle.mol_values_types.proofs.Ties.{id_ties}
 use Rattle.mol_scope.proofs.asked.answer.same_id.Goals as goal
 
 pub returns : goal.returns

@@ -8,7 +8,7 @@ use Rattle.mol_scope.specs.first_names.Readings.{file_place}
 use Rattle.mol_scope.proofs.first_names_lemmas.FirstRead.{by-variable, by-none}
 use Rattle.mol_resolve_rules.specs.ProgramReaders.{class_header}
 use Rattle.mol_resolve_rules.specs.ProgramViews.{program_view}
-use Rattle.mol_table.specs.Program.{Program}
+use Rattle.mol_table_rules.specs.Program.{Program}
 use Rattle.mol_scope.specs.variables.Keys.{found_in, variable_key}
 use Rattle.mol_scope.proofs.first_names.leftmost_names.leftmost.Goals as goal
 

@@ -3,7 +3,7 @@ use Rattle.mol_scope_classes.proofs.class_members_lemmas.Grouped.{listed-put}
 use Rattle.mol_scope_classes.proofs.class_members.grouping.add.Goals as goal
 use Rattle.mol_scope_classes.specs.class_members.Members.{listed_at}
 use Rattle.mol_scope_classes.specs.declared.class_members.class_member.ClassMember.{ClassMember}
-use Rattle.mol_values.specs.Order.{id_eq}
+use Rattle.mol_values_types.specs.Order.{id_eq}
 
 pub returns : goal.returns
 returns c = λ asked.

@@ -3,9 +3,9 @@ use Rattle.std.specs.FinMap.{get, from_entries}
 use Rattle.std.specs.Option.{option_map_or}
 use Rattle.mol_base.specs.Order.{id_cmp, id_cmp-total}
 use Rattle.mol_base.specs.declared.ident.Id.{Id}
-use Rattle.mol_values.proofs.Lookups.{get_is}
-use Rattle.mol_values.proofs.Ties.{id_ties}
-use Rattle.mol_values.specs.Order.{id_eq}
+use Rattle.mol_values_types.proofs.Lookups.{get_is}
+use Rattle.mol_values_types.proofs.Ties.{id_ties}
+use Rattle.mol_values_types.specs.Order.{id_eq}
 use Rattle.mol_scope_classes.specs.hierarchy.Paths.{place_on}
 use Rattle.mol_scope_classes.specs.declared.hierarchy.position.Position.{Position}
 use Rattle.mol_scope_classes.proofs.hierarchy.paths.position_in.Goals as goal

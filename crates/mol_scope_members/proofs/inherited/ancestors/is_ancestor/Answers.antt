@@ -1,6 +1,6 @@
 use Rattle.std.proofs.Common.{◌∙◌, sym, subst}
-use Rattle.mol_table.specs.Rules.{IsProgram}
-use Rattle.mol_values.proofs.Ties.{id_ties}
+use Rattle.mol_table_rules.specs.Rules.{IsProgram}
+use Rattle.mol_values_types.proofs.Ties.{id_ties}
 use Rattle.mol_scope_members.proofs.inherited_lemmas.Reached.{ancestor-is, never-itself}
 use Rattle.mol_scope_members.proofs.inherited.ancestors.is_ancestor.Goals as goal
 

@@ -5,8 +5,8 @@ use Rattle.jav_scope.specs.Climbs.{climb, above}
 use Rattle.jav_scope.specs.declared.found.Found.TheVariants as answer
 use Rattle.mol_base.specs.declared.ident.Id.{Id}
 use Rattle.mol_resolve_rules.specs.ProgramViews.{program_view}
-use Rattle.mol_table.specs.Program.{Program}
-use Rattle.mol_table.specs.Rules.{IsProgram}
+use Rattle.mol_table_rules.specs.Program.{Program}
+use Rattle.mol_table_rules.specs.Rules.{IsProgram}
 use Rattle.mol_scope_members.specs.inherited.Soughts.{found_in_class}
 use Rattle.mol_scope_members.proofs.inherited_lemmas.NearestClimbed.{climb-near, climb-short}
 use Rattle.mol_scope_members.proofs.inherited.climbed.climbed.Goals as goal

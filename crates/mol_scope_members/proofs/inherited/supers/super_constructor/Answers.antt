@@ -5,7 +5,7 @@ use Rattle.jav_scope.specs.declared.found.Found.TheVariants as answer
 use Rattle.jav_names.specs.LookUps.{class_above, is_outside, constructor_from}
 use Rattle.mol_base.specs.declared.ident.Id.{Id}
 use Rattle.mol_resolve_rules.specs.ProgramViews.{program_view}
-use Rattle.mol_table.specs.Program.{Program}
+use Rattle.mol_table_rules.specs.Program.{Program}
 use Rattle.mol_scope_members.specs.declaring.Indexed.{constructor_id}
 use Rattle.mol_scope_members.proofs.inherited_lemmas.SupersFound.{from-above, from-outside, from-nothing}
 use Rattle.mol_scope_members.proofs.inherited.supers.super_constructor.Goals as goal

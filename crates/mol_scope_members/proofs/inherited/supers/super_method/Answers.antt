@@ -7,7 +7,7 @@ use Rattle.jav_names.specs.Members.{is_object_method}
 use Rattle.jav_names.specs.Views.{ViewDeclaration}
 use Rattle.mol_base.specs.declared.ident.Id.{Id}
 use Rattle.mol_resolve_rules.specs.ProgramViews.{program_view}
-use Rattle.mol_table.specs.Program.{Program}
+use Rattle.mol_table_rules.specs.Program.{Program}
 use Rattle.mol_scope_members.proofs.inherited_lemmas.SupersFound.{from-above, from-outside-or, from-nothing-or}
 use Rattle.mol_scope_members.proofs.inherited.supers.super_method.Goals as goal
 

@@ -2,11 +2,11 @@ use Rattle.std.proofs.Common.{◌≡◌, ◌∙◌, Bool, true, false, cond, Opt
 use Rattle.std.specs.FinMap.{get, from_entries, get-insert}
 use Rattle.mol_base.specs.Order.{id_cmp, id_cmp-total, id_cmp-IsAntisymmetric}
 use Rattle.mol_base.specs.declared.ident.Id.{Id}
-use Rattle.mol_table.proofs.Living.{id_tied}
-use Rattle.mol_table.specs.Program.{same_id}
-use Rattle.mol_values.proofs.Lookups.{inserted, get_is}
-use Rattle.mol_values.proofs.Ties.{id_ties}
-use Rattle.mol_values.specs.Order.{id_eq}
+use Rattle.mol_table_rules.proofs.Living.{id_tied}
+use Rattle.mol_table_rules.specs.Program.{same_id}
+use Rattle.mol_values_types.proofs.Lookups.{inserted, get_is}
+use Rattle.mol_values_types.proofs.Ties.{id_ties}
+use Rattle.mol_values_types.specs.Order.{id_eq}
 use Rattle.mol_scope_members.specs.topmost.Highest.{first_or_higher, top_in}
 use Rattle.mol_scope_members.proofs.topmost.highest.put_highest.Goals.{in-Some, in-None}
 use Rattle.mol_scope_members.proofs.topmost.highest.put_highest.Goals as goal

@@ -1,8 +1,8 @@
 use Rattle.std.proofs.Common.{◌∙◌, sym, ap, option_copied}
 use Rattle.mol_base.specs.Order.{id_cmp, id_cmp-total}
-use Rattle.mol_values.proofs.Lookups.{get_is}
-use Rattle.mol_values.proofs.Ties.{id_ties}
-use Rattle.mol_values.specs.Order.{id_eq}
+use Rattle.mol_values_types.proofs.Lookups.{get_is}
+use Rattle.mol_values_types.proofs.Ties.{id_ties}
+use Rattle.mol_values_types.specs.Order.{id_eq}
 use Rattle.mol_scope_members.specs.topmost.Highest.{is_below}
 use Rattle.mol_scope_members.proofs.topmost.unordered.is_under.Goals as goal
 

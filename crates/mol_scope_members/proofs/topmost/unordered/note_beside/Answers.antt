@@ -3,10 +3,10 @@ use Rattle.std.specs.Cmp.{eq_by_cmp_equiv}
 use Rattle.std.specs.List.{list_any}
 use Rattle.mol_base.specs.Order.{id_cmp-total}
 use Rattle.mol_base.specs.declared.ident.Id.{Id}
-use Rattle.mol_table.proofs.Living.{id_tied}
-use Rattle.mol_table.specs.Counting.{is_of, living_of}
-use Rattle.mol_table.specs.Program.{Program, same_id}
-use Rattle.mol_values.proofs.Ties.{id_ties, any_tied}
+use Rattle.mol_table_rules.proofs.Living.{id_tied}
+use Rattle.mol_table_rules.specs.Counting.{is_of, living_of}
+use Rattle.mol_table_rules.specs.Program.{Program, same_id}
+use Rattle.mol_values_types.proofs.Ties.{id_ties, any_tied}
 use Rattle.mol_scope_members.specs.topmost.Highest.{is_under, stands_beside}
 use Rattle.mol_scope_members.proofs.topmost.unordered.note_beside.Goals as goal
 

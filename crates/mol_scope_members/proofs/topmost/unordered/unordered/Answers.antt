@@ -3,7 +3,7 @@ use Rattle.std.specs.List.{list_any}
 use Rattle.std.proofs.lemmas.List.{take_more, take_all}
 use Rattle.std.proofs.lemmas.List.Folds.{list_any-append}
 use Rattle.mol_base.specs.declared.ident.Id.{Id}
-use Rattle.mol_table.specs.Program.{same_id}
+use Rattle.mol_table_rules.specs.Program.{same_id}
 use Rattle.mol_scope_members.specs.topmost.Highest.{stands_beside}
 use Rattle.mol_scope_members.proofs.topmost.unordered.unordered.Goals as goal
 

@@ -1,7 +1,7 @@
 use Rattle.std.proofs.Common.{◌≡◌, take}
 use Rattle.std.specs.List.{list_any}
 use Rattle.mol_base.specs.declared.ident.Id.{Id}
-use Rattle.mol_table.specs.Program.{same_id}
+use Rattle.mol_table_rules.specs.Program.{same_id}
 use Rattle.mol_scope_members.specs.topmost.Highest.{stands_beside}
 use Rattle.mol_scope_members.proofs.topmost.unordered.unordered.Given as goal
 

@@ -1,6 +1,6 @@
 use Rattle.std.proofs.Common.{◌∙◌, ap}
 use Rattle.mol_spell.proofs.units.cells.tail_of.Goals as goal
-use Rattle.mol_values.specs.declared.words.Notes.{Notes}
+use Rattle.mol_values_types.specs.declared.words.Notes.{Notes}
 
 pub returns-in-Some : goal.returns-in-Some
 returns-in-Some c = c.items.ensures ∙ ap (λ (notes : Notes). notes.tail) c.in-Some.ensures

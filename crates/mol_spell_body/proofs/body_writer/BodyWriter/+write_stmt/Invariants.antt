@@ -6,12 +6,12 @@ use Rattle.mol_spell_body.specs.GoesOn.{GoesOn}
 use Rattle.mol_spell_places.specs.body_places.Statements.{stmt_spelling}
 use Rattle.mol_spell_places.specs.body_locals.Kept.{locals_of}
 use Rattle.mol_spell_rules.specs.SpelledStatements.{each}
-use Rattle.mol_values.proofs.iblock.IBlock.TheLaws.{the_size as block_size}
-use Rattle.mol_values.proofs.iblock.IElse.TheLaws.{the_size as else_size}
-use Rattle.mol_values.proofs.iblock.IIf.TheLaws.{the_size as if_size}
-use Rattle.mol_values.proofs.iblock.IStmt.TheLaws.{the_size as stmt_size}
-use Rattle.mol_values.proofs.iblock.IStmtNode.TheLaws.{the_size as node_size}
-use Rattle.mol_values.specs.declared.iblock.IStmt.{IStmt}
+use Rattle.mol_values_types.proofs.iblock.IBlock.TheLaws.{the_size as block_size}
+use Rattle.mol_values_types.proofs.iblock.IElse.TheLaws.{the_size as else_size}
+use Rattle.mol_values_types.proofs.iblock.IIf.TheLaws.{the_size as if_size}
+use Rattle.mol_values_types.proofs.iblock.IStmt.TheLaws.{the_size as stmt_size}
+use Rattle.mol_values_types.proofs.iblock.IStmtNode.TheLaws.{the_size as node_size}
+use Rattle.mol_values_types.specs.declared.iblock.IStmt.{IStmt}
 
 abbrev pub decreases-block : goal.decreases-block
 decreases-block g l = 4 * block_size l.block.now

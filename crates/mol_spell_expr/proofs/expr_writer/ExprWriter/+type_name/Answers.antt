@@ -9,6 +9,6 @@ pub returns-in_ok-item-in-Array : goal.returns-in_ok-item-in-Array
 returns-in_ok-item-in-Array g t c =
     let writer = g.N.Names.writer c.args.self.now.names.now in
     let locals = g.N.Names.locals c.args.self.now.names.now in
-    IfOk-weaker c.array_of.result _ _ (λ tree written asks.
-    write-Array writer (hides_at writer locals c.args.place) locals c.args.ty.now tree asks _ _ c.in-Array.is c.get-in-Array.ensures
-    (written ∙ ap (λ item. types.ArrayOf item) (c.in_ok-item-in-Array.ensures asks))) c.array_of.ensures
+    IfOk-weaker c.array_of.result _ _ (λ tree written.
+    write-Array writer (hides_at writer locals c.args.place) locals c.args.ty.now tree _ _ c.in-Array.is c.get-in-Array.ensures
+    (written ∙ ap (λ item. types.ArrayOf item) c.in_ok-item-in-Array.ensures)) c.array_of.ensures

@@ -1,10 +1,10 @@
 -- Each call goes to a lower expression, or to a function of a lower rank over the same ones.
 use Rattle.std.proofs.Common.{◌≡◌, ℕ, ◌+◌, ◌*◌, List, map, max, take}
 use denote.Param.Weighed.{most}
-use Rattle.mol_values.proofs.iexpr.Argument.TheLaws.{the_size as argument_size}
-use Rattle.mol_values.proofs.iexpr.IExpr.TheLaws.{the_size}
-use Rattle.mol_values.specs.declared.iexpr.Argument.{Argument}
-use Rattle.mol_values.specs.declared.iexpr.IExpr.{IExpr}
+use Rattle.mol_values_types.proofs.iexpr.Argument.TheLaws.{the_size as argument_size}
+use Rattle.mol_values_types.proofs.iexpr.IExpr.TheLaws.{the_size}
+use Rattle.mol_values_types.specs.declared.iexpr.Argument.{Argument}
+use Rattle.mol_values_types.specs.declared.iexpr.IExpr.{IExpr}
 use Rattle.mol_spell_expr.proofs.expr_writer.ExprWriter.+write_expr.Given as goal
 use Rattle.mol_spell_expr.specs.Parts.{argument_tree, tree_of}
 

@@ -1,10 +1,8 @@
-use Rattle.std.proofs.Common.{◌∙◌, ap, length}
+use Rattle.std.proofs.Common.{◌∙◌, ap}
 use Rattle.jav_tree.specs.declared.expr.ExprNode.TheVariants as node
 use Rattle.mol_spell_rules.specs.SpelledExpressions.{made}
-use Rattle.mol_spell_rules.specs.Writers.{constructor_asked}
 use Rattle.mol_spell_expr.proofs.expr_writer.ExprWriter.creation_of.Goals as goal
 
 pub returns : goal.returns
 returns g c =
-    c.made.ensures
-    ∙ ap (λ ty. made (node.New ty c.args.args)) (c.in_ok-ty.ensures (λ text. constructor_asked text (length c.args.args)))
+    c.made.ensures ∙ ap (λ ty. made (node.New ty c.args.args)) c.in_ok-ty.ensures

@@ -1,9 +1,8 @@
 use Rattle.std.proofs.Common.{◌∙◌, ap}
 use Rattle.jav_tree.specs.declared.expr.ExprNode.TheVariants as node
 use Rattle.mol_spell_rules.specs.SpelledExpressions.{made}
-use Rattle.mol_spell_rules.specs.Writers.{type_asked}
 use Rattle.mol_spell_expr.proofs.expr_writer.ExprWriter.new_array.Goals as goal
 
 pub returns : goal.returns
 returns g c =
-    c.made.ensures ∙ ap (λ ty. made (node.NewArray ty c.args.sizes c.args.pairs)) (c.in_ok-ty.ensures (λ text. type_asked text))
+    c.made.ensures ∙ ap (λ ty. made (node.NewArray ty c.args.sizes c.args.pairs)) c.in_ok-ty.ensures

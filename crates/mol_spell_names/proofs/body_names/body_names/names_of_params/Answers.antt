@@ -3,8 +3,8 @@ use Rattle.std.proofs.lemmas.Result.{IfOk-weaker}
 use Rattle.std.specs.FinMap.{get}
 use Rattle.mol_spell_names.proofs.body_names.body_names.names_of_params.Goals as goal
 use Rattle.mol_spell_names.specs.body_names.FilePlaces.{declared_in, param_names_in}
-use Rattle.mol_table.specs.Program.{Program, params_at}
-use Rattle.mol_values.specs.declared.param.Param.{Param}
+use Rattle.mol_table_rules.specs.Program.{Program, params_at}
+use Rattle.mol_values_types.specs.declared.param.Param.{Param}
 
 pub returns-in-Some : goal.returns-in-Some
 returns-in-Some c =

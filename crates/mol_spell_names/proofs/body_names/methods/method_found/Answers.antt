@@ -7,7 +7,7 @@ use Rattle.mol_base.specs.declared.ident.Id.{Id}
 use Rattle.mol_spell_names.proofs.body_names_lemmas.FoundHere.{key_of}
 use Rattle.mol_spell_names.proofs.body_names.methods.method_found.Goals as goal
 use Rattle.mol_resolve_rules.specs.ProgramViews.{program_view}
-use Rattle.mol_table.specs.Program.{Program, name_at}
+use Rattle.mol_table_rules.specs.Program.{Program, name_at}
 
 pub returns-in-Some : goal.returns-in-Some
 returns-in-Some c =

@@ -1,7 +1,7 @@
 use Rattle.std.proofs.Common.{◌∙◌, sym, ap}
 use Rattle.mol_spell_names.proofs.body_names.methods.method_is.Goals as goal
 use Rattle.mol_spell_names.specs.body_names.FoundAs.{is_method_found}
-use Rattle.mol_table.specs.Program.{same_id}
+use Rattle.mol_table_rules.specs.Program.{same_id}
 
 pub returns-in-Found : goal.returns-in-Found
 returns-in-Found c =

@@ -2,8 +2,8 @@ use Rattle.std.proofs.Common.{◌∙◌, sym, ap}
 use Rattle.std.proofs.lemmas.Result.{on_ok_weaker}
 use Rattle.mol_spell_names.proofs.program_index_lemmas.UsesKept.{living-kept, other-kept}
 use Rattle.mol_spell_names.proofs.program_index.kept_uses.keep_living.Goals as goal
-use Rattle.mol_table.specs.Program.{Program}
-use Rattle.mol_table.specs.Renumber.{is_living_class}
+use Rattle.mol_table_rules.specs.Program.{Program}
+use Rattle.mol_table_rules.specs.Renumber.{is_living_class}
 
 pub returns-then-is_living_class : goal.returns-then-is_living_class
 returns-then-is_living_class c =

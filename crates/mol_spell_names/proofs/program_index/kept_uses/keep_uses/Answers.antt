@@ -3,7 +3,7 @@ use Rattle.std.specs.Map.{lookup}
 use Rattle.mol_base.specs.declared.ident.Id.{Id}
 use Rattle.mol_spell_names.proofs.program_index.kept_uses.keep_uses.Goals as goal
 use Rattle.mol_spell_rules.specs.Writers.{Use}
-use Rattle.mol_values.specs.Order.{id_eq}
+use Rattle.mol_values_types.specs.Order.{id_eq}
 
 pub returns : goal.returns
 returns c = λ (asked : Id).

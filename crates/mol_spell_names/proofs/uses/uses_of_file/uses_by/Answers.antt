@@ -3,8 +3,8 @@ use Rattle.mol_spell_names.proofs.uses.uses_of_file.uses_by.Goals as goal
 use Rattle.mol_spell_names.specs.uses.CellUses.{members_uses}
 use Rattle.mol_spell_rules.specs.SimpleNames.{uses_at}
 use Rattle.mol_spell_rules.specs.UnitCells.{members_of}
-use Rattle.mol_table.specs.Program.{Program, cell}
-use Rattle.mol_values.specs.declared.cell.Slot.TheVariants as slots
+use Rattle.mol_table_rules.specs.Program.{Program, cell}
+use Rattle.mol_values_types.specs.declared.cell.Slot.TheVariants as slots
 
 pub returns : goal.returns
 returns c =

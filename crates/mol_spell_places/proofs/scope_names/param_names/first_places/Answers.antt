@@ -1,6 +1,6 @@
 use Rattle.std.proofs.Common.{List, subst, arith}
 use Rattle.std.proofs.lemmas.List.{take_all}
-use Rattle.mol_values.specs.declared.param.Param.{Param}
+use Rattle.mol_values_types.specs.declared.param.Param.{Param}
 use Rattle.mol_spell_places.specs.scope_names.Params.{param_names, AreFirst}
 use Rattle.mol_spell_places.proofs.scope_names_lemmas.ParamsPut.{none-first, one-more}
 use Rattle.mol_spell_places.proofs.scope_names.param_names.first_places.Goals as goal

@@ -3,7 +3,7 @@ use Rattle.mol_spell_uses.proofs.body_uses.values.add_params.Goals as goal
 use Rattle.mol_spell_uses.specs.body_uses.PartUses.{declared_uses}
 use Rattle.mol_resolve_rules.specs.Locals.{no_locals}
 use Rattle.mol_spell_uses.proofs.uses_lemmas.Added.{adds-more, adds-none, adds-whole}
-use Rattle.mol_values.specs.declared.param.Param.{Param}
+use Rattle.mol_values_types.specs.declared.param.Param.{Param}
 
 pub loop-param-init : goal.loop-param-init
 loop-param-init c = λ writer. adds-none c.args.uses.now _ refl

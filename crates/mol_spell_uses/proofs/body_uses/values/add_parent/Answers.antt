@@ -4,7 +4,7 @@ use Rattle.mol_spell_uses.proofs.body_uses.values.add_parent.Goals as goal
 use Rattle.mol_spell_uses.specs.body_uses.PartUses.{value_uses}
 use Rattle.mol_resolve_rules.specs.Locals.{no_locals}
 use Rattle.mol_spell_uses.proofs.uses_lemmas.Added.{adds, adds-none}
-use Rattle.mol_values.specs.declared.value.Value.TheVariants as values
+use Rattle.mol_values_types.specs.declared.value.Value.TheVariants as values
 
 pub returns-in-Some : goal.returns-in-Some
 returns-in-Some c =

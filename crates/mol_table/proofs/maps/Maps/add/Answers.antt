@@ -2,8 +2,8 @@ use Rattle.std.proofs.Common.{◌≡◌, ◌∙◌, sym, ap, subst, arith}
 use Rattle.std.specs.List.Sorted.{IsSorted}
 use Rattle.mol_base.specs.Order.{id_cmp}
 use Rattle.mol_table.specs.Maps.{program_in, cells_of, knowns_of, Stands}
-use Rattle.mol_table.specs.Rules.{IsProgram}
-use Rattle.mol_table.specs.Writes.{with_entities}
+use Rattle.mol_table_rules.specs.Rules.{IsProgram}
+use Rattle.mol_table_rules.specs.Writes.{with_entities}
 use Rattle.mol_table.proofs.Changing.{are-apart, arranged-program, stands-arranged}
 use Rattle.mol_table.proofs.Identities.{ids_of, starts-ascends, starts-longer, starts-self}
 use Rattle.mol_table.proofs.maps.Maps.add.Goals as goal

@@ -4,9 +4,9 @@ use Rattle.std.specs.List.Sorted.{IsPermutation}
 use Rattle.std.proofs.lemmas.List.{length-drop, length-map, length-take-le, take_all}
 use Rattle.indexmap.specs.IndexMap.{keys}
 use Rattle.mol_base.specs.declared.ident.Id.{Id}
-use Rattle.mol_table.specs.Identities.{AscendsTo, IsAscending}
+use Rattle.mol_table_rules.specs.Identities.{AscendsTo, IsAscending}
 use Rattle.mol_table.specs.Maps.{IsOrdered}
-use Rattle.mol_values.specs.declared.known.Known.{Known}
+use Rattle.mol_values_types.specs.declared.known.Known.{Known}
 use Rattle.mol_table.proofs.Arranged.{NotBelow, all-sorted, front-ascending}
 use Rattle.mol_table.proofs.Identities.{sorted-ascending}
 use Rattle.mol_table.proofs.maps.Maps.arrange.Goals.{then-ids-from-via-then-ids-from, then-ids-from-via-else-ids-from+then-ascends_from}

@@ -9,7 +9,7 @@ use Rattle.mol_table.specs.Maps.{program_in}
 use Rattle.mol_table.specs.Tidying.{bare_in}
 use Rattle.mol_table.proofs.Bare.{bare-none, bare-lists, bare-known}
 use Rattle.mol_table.proofs.Copying.{take-item}
-use Rattle.mol_table.proofs.Programs.{keys-known}
+use Rattle.mol_table_rules.proofs.Programs.{keys-known}
 use Rattle.mol_table.proofs.maps.Maps.bare_constructors.Goals as goal
 
 pub loop-id-init : goal.loop-id-init

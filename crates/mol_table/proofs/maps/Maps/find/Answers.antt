@@ -1,8 +1,8 @@
 use Rattle.std.proofs.Common.{◌∙◌, sym}
 use Rattle.mol_base.specs.Order.{id_cmp, id_cmp-total, id_cmp-IsAntisymmetric}
-use Rattle.mol_values.proofs.Lookups.{get_is}
-use Rattle.mol_values.specs.Order.{id_eq}
-use Rattle.mol_values.proofs.Ties.{id_ties}
+use Rattle.mol_values_types.proofs.Lookups.{get_is}
+use Rattle.mol_values_types.specs.Order.{id_eq}
+use Rattle.mol_values_types.proofs.Ties.{id_ties}
 use Rattle.mol_table.proofs.EntryFound.{entry-found}
 use Rattle.mol_table.proofs.maps.Maps.find.Goals as goal
 

@@ -1,7 +1,8 @@
 use Rattle.std.proofs.Common.{◌∙◌, ap, sym, subst}
-use Rattle.mol_table.specs.Maps.{program_in, AreKnown}
-use Rattle.mol_table.specs.Writes.{known_by}
-use Rattle.mol_table.proofs.Writing.{with_params-known}
+use Rattle.mol_table.specs.Maps.{program_in}
+use Rattle.mol_table_rules.specs.Room.{AreKnown}
+use Rattle.mol_table_rules.specs.Writes.{known_by}
+use Rattle.mol_table_rules.proofs.Writing.{with_params-known}
 use Rattle.mol_table.proofs.maps.Maps.know.Goals as goal
 
 pub returns-else-not-all_known-clause-known : goal.returns-else-not-all_known-clause-known

@@ -1,9 +1,9 @@
 use Rattle.std.proofs.Common.{◌∙◌, ap}
 use Rattle.std.specs.Prelude.{unwrap_or}
 use Rattle.mol_base.specs.Order.{id_cmp, id_cmp-total}
-use Rattle.mol_values.proofs.Lookups.{get_is}
-use Rattle.mol_values.specs.Order.{id_eq}
-use Rattle.mol_values.proofs.Ties.{id_ties}
+use Rattle.mol_values_types.proofs.Lookups.{get_is}
+use Rattle.mol_values_types.specs.Order.{id_eq}
+use Rattle.mol_values_types.proofs.Ties.{id_ties}
 use Rattle.mol_table.proofs.maps.Maps.number.Goals as goal
 
 pub returns : goal.returns

@@ -2,11 +2,12 @@ use Rattle.std.proofs.Common.{◌≡◌, ◌≢◌, ◌≤◌, ◌∙◌, ◌∷
 use Rattle.std.specs.List.{AllByRecursion}
 use Rattle.std.specs.Vec.Iter.{into_iter_items}
 use Rattle.indexmap.specs.IndexMap.{spare}
-use Rattle.mol_table.specs.Maps.{program_in, values_in, names_of, AreFresh, AreApart}
-use Rattle.mol_table.specs.Program.{Program}
-use Rattle.mol_table.specs.Writes.{with_entity, with_entities}
-use Rattle.mol_table.specs.declared.entity.NewEntity.{NewEntity}
-use Rattle.mol_table.proofs.Living.{entity-elsewhere}
+use Rattle.mol_table.specs.Maps.{program_in}
+use Rattle.mol_table_rules.specs.Room.{values_in, names_of, AreFresh, AreApart}
+use Rattle.mol_table_rules.specs.Program.{Program}
+use Rattle.mol_table_rules.specs.Writes.{with_entity, with_entities}
+use Rattle.mol_table_rules.specs.declared.entity.NewEntity.{NewEntity}
+use Rattle.mol_table_rules.proofs.Living.{entity-elsewhere}
 use Rattle.mol_table.proofs.maps.Maps.put_entities.Goals as goal
 
 still-fresh : (program : Program) (entity : NewEntity) (rest : List NewEntity) → AllByRecursion (λ (other : NewEntity). entity.id ≢ other.id) rest

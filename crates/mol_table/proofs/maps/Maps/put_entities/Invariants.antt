@@ -2,9 +2,10 @@ use Rattle.mol_base.specs.declared.ident.Id.{Id}
 use Rattle.std.proofs.Common.{List, ◌≡◌, ◌≤◌, ◌+◌, length}
 use Rattle.std.specs.Vec.Iter.{into_iter_items}
 use Rattle.indexmap.specs.IndexMap.{spare}
-use Rattle.mol_table.specs.Counting.{Counted}
-use Rattle.mol_table.specs.Maps.{program_in, counts_in, StartsWith, values_in, names_of, AreFresh, AreApart}
-use Rattle.mol_table.specs.Writes.{with_entities}
+use Rattle.mol_table_rules.specs.Counting.{Counted}
+use Rattle.mol_table.specs.Maps.{program_in, counts_in, StartsWith}
+use Rattle.mol_table_rules.specs.Room.{values_in, names_of, AreFresh, AreApart}
+use Rattle.mol_table_rules.specs.Writes.{with_entities}
 use Rattle.mol_table.proofs.maps.Maps.put_entities.Given as goal
 
 abbrev pub invariant-loop-entity : goal.invariant-loop-entity

@@ -1,9 +1,10 @@
 use Rattle.std.proofs.Common.{◌≡◌, ◌∙◌, sym, ap, subst, arith, length}
 use Rattle.std.specs.FinMap.{get}
-use Rattle.mol_table.specs.Counting.{Counted, number_at, counted_by}
-use Rattle.mol_table.specs.Maps.{program_in, counts_in, StartsWith, names_among}
-use Rattle.mol_table.specs.Program.{living_at}
-use Rattle.mol_table.specs.Writes.{with_entity}
+use Rattle.mol_table_rules.specs.Counting.{Counted, number_at, counted_by}
+use Rattle.mol_table.specs.Maps.{program_in, counts_in, StartsWith}
+use Rattle.mol_table_rules.specs.Room.{names_among}
+use Rattle.mol_table_rules.specs.Program.{living_at}
+use Rattle.mol_table_rules.specs.Writes.{with_entity}
 use Rattle.mol_table.specs.declared.maps.Maps.{Maps}
 use Rattle.mol_table.proofs.Changing.{entity-unchanged, entity-written}
 use Rattle.mol_table.proofs.Counted.{number-le, counted-entity}

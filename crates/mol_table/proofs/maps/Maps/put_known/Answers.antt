@@ -2,10 +2,10 @@ use Rattle.std.proofs.Common.{◌∙◌, sym, subst}
 use mathlib.Core.Logic.{inl, inr}
 use Rattle.mol_base.specs.Order.{id_cmp, id_cmp-total, id_cmp-IsAntisymmetric}
 use Rattle.mol_table.specs.Maps.{StartsWith}
-use Rattle.mol_values.specs.Order.{id_eq}
+use Rattle.mol_values_types.specs.Order.{id_eq}
 use Rattle.mol_table.proofs.Identities.{starts-insert, count-insert, count-again}
-use Rattle.mol_values.proofs.Lookups.{inserted, get_is, not_absent, must_be_ok}
-use Rattle.mol_values.proofs.Ties.{id_ties}
+use Rattle.mol_values_types.proofs.Lookups.{inserted, get_is, not_absent, must_be_ok}
+use Rattle.mol_values_types.proofs.Ties.{id_ties}
 use Rattle.mol_table.proofs.maps.Maps.put_known.Goals as goal
 
 pub unwrap-requires : goal.unwrap-requires

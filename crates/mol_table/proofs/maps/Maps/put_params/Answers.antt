@@ -1,8 +1,8 @@
 use Rattle.std.proofs.Common.{◌≡◌, ◌+◌, ◌∙◌, ap, subst, arith, drop}
 use Rattle.mol_table.specs.Maps.{program_in}
-use Rattle.mol_table.specs.Writes.{with_params}
+use Rattle.mol_table_rules.specs.Writes.{with_params}
 use Rattle.mol_table.specs.declared.maps.Maps.{Maps}
-use Rattle.mol_table.proofs.Writing.{drop-item}
+use Rattle.mol_table_rules.proofs.Writing.{drop-item}
 use Rattle.mol_table.proofs.maps.Maps.put_params.Goals as goal
 
 pub loop-param-preserved : goal.loop-param-preserved

@@ -2,7 +2,7 @@ use Rattle.mol_base.specs.declared.ident.Id.{Id}
 use Rattle.std.proofs.Common.{List, length, ◌≡◌, ◌≤◌, ◌+◌, drop}
 use Rattle.indexmap.specs.IndexMap.{spare}
 use Rattle.mol_table.specs.Maps.{program_in, StartsWith}
-use Rattle.mol_table.specs.Writes.{with_params}
+use Rattle.mol_table_rules.specs.Writes.{with_params}
 use Rattle.mol_table.proofs.maps.Maps.put_params.Given as goal
 
 abbrev pub invariant-loop-param : goal.invariant-loop-param

@@ -1,9 +1,9 @@
 use Rattle.std.proofs.Common.{◌∙◌, sym}
 use mathlib.Core.Logic.{inl, inr}
-use Rattle.mol_values.specs.Order.{cell_cmp}
-use Rattle.mol_table.proofs.CellOrder.{cell_cmp-total, cell_cmp-IsAntisymmetric}
-use Rattle.mol_values.proofs.Lookups.{inserted, get_is, not_absent, must_be_ok}
-use Rattle.mol_values.proofs.Ties.{cell_eq, cell_ties}
+use Rattle.mol_values_types.specs.Order.{cell_cmp}
+use Rattle.mol_table_rules.proofs.CellOrder.{cell_cmp-total, cell_cmp-IsAntisymmetric}
+use Rattle.mol_values_types.proofs.Lookups.{inserted, get_is, not_absent, must_be_ok}
+use Rattle.mol_values_types.proofs.Ties.{cell_eq, cell_ties}
 use Rattle.mol_table.proofs.maps.Maps.put_value.Goals as goal
 
 pub unwrap-requires : goal.unwrap-requires

@@ -1,9 +1,9 @@
 use Rattle.std.proofs.Common.{◌≡◌, ◌∙◌, sym, ap, subst, arith, is_some, true}
 use Rattle.std.specs.FinMap.{get}
-use Rattle.mol_table.specs.Counting.{number_at}
+use Rattle.mol_table_rules.specs.Counting.{number_at}
 use Rattle.mol_table.specs.Maps.{counts_in}
 use Rattle.mol_table.proofs.Counted.{lowered-kept}
-use Rattle.mol_table.proofs.Living.{number-lowered}
+use Rattle.mol_table_rules.proofs.Living.{number-lowered}
 use Rattle.mol_table.proofs.maps.Maps.recount.Goals as goal
 
 pub raise-requires-clause-there : goal.raise-requires-clause-there

@@ -2,11 +2,13 @@ use Rattle.std.proofs.Common.{◌≡◌, ◌≤◌, ◌∙◌, sym, ap, subst, a
 use mathlib.Core.Logic.{inl, inr}
 use Rattle.std.specs.FinMap.{get}
 use Rattle.mol_base.specs.declared.ident.Id.{Id}
-use Rattle.mol_table.specs.Counting.{number_at, living_of, recounted}
-use Rattle.mol_table.specs.Maps.{program_in, counts_in, StartsWith, NamesKnown}
-use Rattle.mol_table.specs.Program.{Program}
+use Rattle.mol_table_rules.specs.Counting.{number_at, living_of, recounted}
+use Rattle.mol_table.specs.Maps.{program_in, counts_in, StartsWith}
+use Rattle.mol_table_rules.specs.Room.{NamesKnown}
+use Rattle.mol_table_rules.specs.Program.{Program}
 use Rattle.mol_table.specs.declared.maps.Maps.{Maps}
-use Rattle.mol_table.proofs.Changing.{arranged-program, reserved-program, owner-known, stands-set, stands-reserved, entity-unchanged, value-written}
+use Rattle.mol_table.proofs.Changing.{arranged-program, reserved-program, stands-set, stands-reserved, entity-unchanged, value-written}
+use Rattle.mol_table_rules.proofs.CellOwners.{owner-known}
 use Rattle.mol_table.proofs.Counted.{place-some, place-now, number-some, number-le}
 use Rattle.mol_table.proofs.Identities.{ids_of, starts-ascends, starts-longer, starts-self}
 use Rattle.mol_table.proofs.maps.Maps.set.Goals as goal

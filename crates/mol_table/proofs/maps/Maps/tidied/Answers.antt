@@ -1,5 +1,5 @@
 use Rattle.mol_table.specs.Maps.{cells_of, knowns_of}
-use Rattle.mol_table.proofs.TidyRules.{tidied-program}
+use Rattle.mol_table.proofs.TidiedMaps.{tidied-program}
 use Rattle.mol_table.proofs.maps.Maps.tidied.Goals as goal
 
 pub returns-clause-program : goal.returns-clause-program

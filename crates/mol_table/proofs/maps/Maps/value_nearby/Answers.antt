@@ -1,7 +1,7 @@
 use Rattle.std.proofs.Common.{◌∙◌, sym}
-use Rattle.mol_values.specs.Order.{cell_cmp}
-use Rattle.mol_table.proofs.CellOrder.{cell_cmp-total, cell_cmp-IsAntisymmetric}
-use Rattle.mol_values.proofs.Ties.{cell_eq, cell_ties}
+use Rattle.mol_values_types.specs.Order.{cell_cmp}
+use Rattle.mol_table_rules.proofs.CellOrder.{cell_cmp-total, cell_cmp-IsAntisymmetric}
+use Rattle.mol_values_types.proofs.Ties.{cell_eq, cell_ties}
 use Rattle.mol_table.proofs.EntryFound.{entry-found}
 use Rattle.mol_table.proofs.maps.Maps.value_nearby.Goals as goal
 

@@ -2,9 +2,10 @@ use Rattle.std.proofs.Common.{◌≡◌, ◌≤◌, ◌<◌, ◌∙◌, ◌∷�
 use mathlib.Core.Logic.{inl}
 use Rattle.std.specs.Vec.Iter.{into_iter_items}
 use Rattle.indexmap.specs.IndexMap.{spare}
-use Rattle.mol_table.specs.Maps.{program_in, names_in, names_among}
-use Rattle.mol_table.specs.Program.{cell}
-use Rattle.mol_table.specs.Writes.{with_value, with_values}
+use Rattle.mol_table.specs.Maps.{program_in}
+use Rattle.mol_table_rules.specs.Room.{names_in, names_among}
+use Rattle.mol_table_rules.specs.Program.{cell}
+use Rattle.mol_table_rules.specs.Writes.{with_value, with_values}
 use Rattle.mol_table.proofs.maps.Maps.write_all.Goals as goal
 
 pub write-requires-clause-cell : goal.write-requires-clause-cell

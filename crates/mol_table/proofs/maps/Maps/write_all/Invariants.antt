@@ -2,8 +2,9 @@ use Rattle.mol_base.specs.declared.ident.Id.{Id}
 use Rattle.std.proofs.Common.{List, ◌≡◌, ◌≤◌, ◌+◌, length}
 use Rattle.std.specs.Vec.Iter.{into_iter_items}
 use Rattle.indexmap.specs.IndexMap.{spare}
-use Rattle.mol_table.specs.Maps.{program_in, StartsWith, names_among}
-use Rattle.mol_table.specs.Writes.{with_values}
+use Rattle.mol_table.specs.Maps.{program_in, StartsWith}
+use Rattle.mol_table_rules.specs.Room.{names_among}
+use Rattle.mol_table_rules.specs.Writes.{with_values}
 use Rattle.mol_table.proofs.maps.Maps.write_all.Given as goal
 
 abbrev pub invariant-loop-value : goal.invariant-loop-value

@@ -1,4 +1,4 @@
-use Rattle.mol_table.specs.Identities.{AscendsTo}
+use Rattle.mol_table_rules.specs.Identities.{AscendsTo}
 use Rattle.mol_table.proofs.maps.ascending.ascends_from.Given as goal
 
 abbrev pub invariant-loop-at : goal.invariant-loop-at

@@ -1,7 +1,7 @@
 use Rattle.std.proofs.Common.{◌≡◌, ◌∙◌, ◌+◌, sym, ap, arith, List, ◌++◌, length, take, position, Some, get_or}
 use Rattle.mol_base.specs.declared.ident.Id.{Id}
-use Rattle.mol_values.specs.Order.{id_eq}
-use Rattle.mol_values.specs.declared.known.Known.{Known}
+use Rattle.mol_values_types.specs.Order.{id_eq}
+use Rattle.mol_values_types.specs.declared.known.Known.{Known}
 use Rattle.mol_table.proofs.Identities.{ids_of, agrees-swap, next-found, next-within, order-long, ordered-distinct, ordered-long, ordered-there, same-knowns, same-list}
 use Rattle.std.proofs.lemmas.List.{length-map}
 use Rattle.mol_table.proofs.maps.ascending.put_in_order.Goals as goal

@@ -2,11 +2,11 @@ use Rattle.std.proofs.Common.{◌≡◌, ◌∙◌, sym, ap, Some, cond, option_
 use Rattle.std.specs.FinMap.{get, get-insert, from_entries}
 use Rattle.mol_base.specs.Order.{id_cmp, id_cmp-total, id_cmp-IsAntisymmetric}
 use Rattle.mol_table.specs.Bare.{lesser}
-use Rattle.mol_values.specs.Order.{id_eq}
-use Rattle.mol_table.specs.Program.{same_id}
+use Rattle.mol_values_types.specs.Order.{id_eq}
+use Rattle.mol_table_rules.specs.Program.{same_id}
 use Rattle.mol_table.specs.Tidying.{bare_in}
-use Rattle.mol_values.proofs.Lookups.{inserted, get_is}
-use Rattle.mol_values.proofs.Ties.{id_ties}
+use Rattle.mol_values_types.proofs.Lookups.{inserted, get_is}
+use Rattle.mol_values_types.proofs.Ties.{id_ties}
 use Rattle.mol_table.proofs.maps.bare.put_lesser.Goals.{in-Some, in-None}
 use Rattle.mol_table.proofs.maps.bare.put_lesser.Goals as goal
 

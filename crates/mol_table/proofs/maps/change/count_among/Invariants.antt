@@ -1,5 +1,5 @@
 use Rattle.std.proofs.Common.{◌≡◌, ◌+◌, drop}
-use Rattle.mol_table.specs.Maps.{names_among}
+use Rattle.mol_table_rules.specs.Room.{names_among}
 use Rattle.mol_table.proofs.maps.change.count_among.Given as goal
 
 abbrev pub invariant-loop-value : goal.invariant-loop-value

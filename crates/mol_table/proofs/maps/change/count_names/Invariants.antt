@@ -1,5 +1,5 @@
 use Rattle.std.proofs.Common.{◌≡◌, ◌+◌, drop}
-use Rattle.mol_table.specs.Maps.{names_of}
+use Rattle.mol_table_rules.specs.Room.{names_of}
 use Rattle.mol_table.proofs.maps.change.count_names.Given as goal
 
 abbrev pub invariant-loop-entity : goal.invariant-loop-entity

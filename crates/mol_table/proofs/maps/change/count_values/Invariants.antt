@@ -1,5 +1,5 @@
 use Rattle.std.proofs.Common.{◌≡◌, ◌+◌, drop}
-use Rattle.mol_table.specs.Maps.{values_in}
+use Rattle.mol_table_rules.specs.Room.{values_in}
 use Rattle.mol_table.proofs.maps.change.count_values.Given as goal
 
 abbrev pub invariant-loop-entity : goal.invariant-loop-entity

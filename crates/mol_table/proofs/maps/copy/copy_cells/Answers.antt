@@ -2,13 +2,13 @@ use Rattle.std.proofs.Common.{◌≡◌, ◌∙◌, ◌++◌, ◌∷◌, [], sym
 use Rattle.std.proofs.lemmas.List.{take_all}
 use Rattle.std.specs.FinMap.{get, get-empty, get-insert, insert}
 use Rattle.indexmap.specs.IndexMap.{keys}
-use Rattle.mol_values.specs.Order.{cell_cmp}
-use Rattle.mol_table.proofs.CellOrder.{cell_cmp-total, cell_cmp-IsAntisymmetric}
+use Rattle.mol_values_types.specs.Order.{cell_cmp}
+use Rattle.mol_table_rules.proofs.CellOrder.{cell_cmp-total, cell_cmp-IsAntisymmetric}
 use Rattle.mol_table.specs.Maps.{cells_of}
 use Rattle.std.specs.Ordering.{eq_by_cmp}
 use Rattle.mol_table.proofs.Copying.{HasAt, take-item, has-more, has-same, has-all}
-use Rattle.mol_values.proofs.Lookups.{inserted, get_is}
-use Rattle.mol_values.proofs.Ties.{cell_eq, cell_ties}
+use Rattle.mol_values_types.proofs.Lookups.{inserted, get_is}
+use Rattle.mol_values_types.proofs.Ties.{cell_eq, cell_ties}
 use Rattle.mol_table.proofs.maps.copy.copy_cells.Goals.{in-Some+in_ok-copy-2+in_ok-insert, in_default}
 use Rattle.mol_table.proofs.maps.copy.copy_cells.Goals as goal
 

@@ -3,11 +3,11 @@ use Rattle.std.proofs.lemmas.List.{take_all}
 use Rattle.std.specs.FinMap.{get, get-empty, get-insert, insert}
 use Rattle.indexmap.specs.IndexMap.{keys}
 use Rattle.mol_base.specs.Order.{id_cmp, id_cmp-total, id_cmp-IsAntisymmetric}
-use Rattle.mol_values.specs.Order.{id_eq}
+use Rattle.mol_values_types.specs.Order.{id_eq}
 use Rattle.mol_table.specs.Maps.{knowns_of, AreOrdered}
 use Rattle.mol_table.proofs.Copying.{HasAt, take-item, has-more, has-same, has-all}
-use Rattle.mol_values.proofs.Lookups.{inserted, get_is}
-use Rattle.mol_values.proofs.Ties.{id_ties}
+use Rattle.mol_values_types.proofs.Lookups.{inserted, get_is}
+use Rattle.mol_values_types.proofs.Ties.{id_ties}
 use Rattle.mol_table.proofs.maps.copy.copy_known.Goals.{in-Some+in_ok-insert_sorted, in_default}
 use Rattle.mol_table.proofs.maps.copy.copy_known.Goals as goal
 

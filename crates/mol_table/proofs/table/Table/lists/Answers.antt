@@ -1,9 +1,9 @@
 use Rattle.std.proofs.Common.{◌∙◌, ap}
 use Rattle.std.specs.List.{list_any}
-use Rattle.mol_table.specs.Life.{lists}
-use Rattle.mol_table.specs.Program.{same_id}
-use Rattle.mol_values.specs.declared.param.Param.{Param}
-use Rattle.mol_values.proofs.Ties.{any_tied}
+use Rattle.mol_table_rules.specs.Life.{lists}
+use Rattle.mol_table_rules.specs.Program.{same_id}
+use Rattle.mol_values_types.specs.declared.param.Param.{Param}
+use Rattle.mol_values_types.proofs.Ties.{any_tied}
 use Rattle.mol_table.proofs.table.Table.lists.Goals as goal
 
 pub returns : goal.returns

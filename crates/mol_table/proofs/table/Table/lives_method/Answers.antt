@@ -1,7 +1,7 @@
 use Rattle.std.proofs.Common.{◌∙◌, ap, sym}
 use Rattle.std.specs.Prelude.{not, ◌==◌}
-use Rattle.mol_table.specs.Life.{lives_method}
-use Rattle.mol_table.proofs.Counts.{any-passing}
+use Rattle.mol_table_rules.specs.Life.{lives_method}
+use Rattle.mol_table_rules.proofs.Counts.{any-passing}
 use Rattle.mol_table.proofs.table.Table.lives_method.Goals as goal
 
 pub returns : goal.returns

@@ -1,5 +1,5 @@
 use Rattle.std.proofs.Common.{arith}
-use Rattle.mol_table.proofs.Programs.{nothing-IsProgram, nothing-Counted}
+use Rattle.mol_table_rules.proofs.Programs.{nothing-IsProgram, nothing-Counted}
 use Rattle.mol_table.proofs.table.Table.new.Goals as goal
 
 pub invariant_of-result : goal.invariant_of-result

@@ -1,11 +1,11 @@
 use Rattle.std.proofs.Common.{◌≡◌, ◌∙◌, sym, ap, subst}
-use Rattle.mol_table.specs.Counting.{Counts, Counted}
+use Rattle.mol_table_rules.specs.Counting.{Counts, Counted}
 use Rattle.mol_table.specs.Maps.{program_in, counts_in}
-use Rattle.mol_table.specs.Program.{Program}
-use Rattle.mol_table.specs.Rules.{IsProgram}
-use Rattle.mol_table.specs.Tidy.{tidy}
-use Rattle.mol_table.proofs.TidyOfTidied.{tidy-tidy}
-use Rattle.mol_table.proofs.TidyRules.{tidy-IsProgram, tidy-Counted}
+use Rattle.mol_table_rules.specs.Program.{Program}
+use Rattle.mol_table_rules.specs.Rules.{IsProgram}
+use Rattle.mol_table_rules.specs.Tidy.{tidy}
+use Rattle.mol_table_rules.proofs.TidyOfTidied.{tidy-tidy}
+use Rattle.mol_table_rules.proofs.TidyRules.{tidy-IsProgram, tidy-Counted}
 use Rattle.mol_table.proofs.table.Table.tidy.Goals as goal
 
 pub invariant_of-result : goal.invariant_of-result

@@ -2,13 +2,13 @@ use Rattle.std.proofs.Common.{◌∙◌, ap, sym, subst}
 use Rattle.std.specs.Prelude.{IfOk, ◌≡◌}
 use Rattle.mol_base.specs.Order.{id_cmp, id_cmp-total}
 use Rattle.mol_table.specs.Maps.{program_in}
-use Rattle.mol_values.specs.Order.{id_eq}
-use Rattle.mol_table.specs.Program.{params_at}
-use Rattle.mol_table.specs.Tidy.{creation}
+use Rattle.mol_values_types.specs.Order.{id_eq}
+use Rattle.mol_table_rules.specs.Program.{params_at}
+use Rattle.mol_table_rules.specs.Tidy.{creation}
 use Rattle.mol_table.specs.Tidying.{bare_in, expr_by}
-use Rattle.mol_values.proofs.Lookups.{get_is}
-use Rattle.mol_values.proofs.Ties.{id_ties}
-use Rattle.mol_table.proofs.Tidied.{tidied-NewDefault, first-found, next-found}
+use Rattle.mol_values_types.proofs.Lookups.{get_is}
+use Rattle.mol_values_types.proofs.Ties.{id_ties}
+use Rattle.mol_table_rules.proofs.Tidied.{tidied-NewDefault, first-found, next-found}
 use Rattle.mol_table.proofs.tidy.iexpr.+tidy_iexpr.Goals as goal
 
 pub tidy_expr-returns-in-NewDefault : goal.tidy_expr-returns-in-NewDefault

@@ -1,5 +1,5 @@
 use Rattle.std.proofs.Common.{◌≡◌, map, take, drop}
-use Rattle.mol_table.specs.Tidy.{arguments_for, value_of}
+use Rattle.mol_table_rules.specs.Tidy.{arguments_for, value_of}
 use Rattle.mol_table.specs.Tidying.{expr_by, argument_by}
 use Rattle.mol_table.proofs.tidy.iexpr.+tidy_iexpr.Given as goal
 

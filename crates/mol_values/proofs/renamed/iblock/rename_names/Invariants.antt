@@ -1,5 +1,5 @@
 use Rattle.std.proofs.Common.{◌≡◌, map, take}
-use Rattle.mol_values.specs.Renamed.{rename_declarator}
+use Rattle.mol_values_types.specs.Renamed.{rename_declarator}
 use Rattle.mol_values.specs.Renaming.{name_in}
 use Rattle.mol_values.proofs.renamed.iblock.rename_names.Given as goal
 

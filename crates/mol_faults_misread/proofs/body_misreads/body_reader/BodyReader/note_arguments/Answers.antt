@@ -4,7 +4,7 @@ use Rattle.mol_faults_misread.proofs.body_misreads_lemmas.Noting.{notes-none}
 use Rattle.mol_faults_misread.proofs.body_misreads.body_reader.BodyReader.note_arguments.Goals as goal
 use Rattle.mol_faults_expr.proofs.NotedMore.{noted-more, noted-whole}
 use Rattle.mol_faults_expr.specs.References.{expr_references}
-use Rattle.mol_values.specs.declared.iexpr.Argument.{Argument}
+use Rattle.mol_values_types.specs.declared.iexpr.Argument.{Argument}
 
 pub loop-arg-init : goal.loop-arg-init
 loop-arg-init g c = notes-none (g.P.Places.writer c.args.self.now.places.now) c.args.misreads.now _ refl

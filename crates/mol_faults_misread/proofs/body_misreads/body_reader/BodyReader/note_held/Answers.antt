@@ -5,7 +5,7 @@ use Rattle.mol_faults_misread.proofs.body_misreads_lemmas.Noting.{notes, notes-n
 use Rattle.mol_faults_misread.proofs.body_misreads_lemmas.ValueParts.{list-noted}
 use Rattle.mol_faults_misread.proofs.body_misreads.body_reader.BodyReader.note_held.Goals as goal
 use Rattle.mol_spell_rules.specs.UnitCells.{references_in}
-use Rattle.mol_values.specs.declared.value.Value.TheVariants as values
+use Rattle.mol_values_types.specs.declared.value.Value.TheVariants as values
 
 pub returns-in-Live : goal.returns-in-Live
 returns-in-Live g c =

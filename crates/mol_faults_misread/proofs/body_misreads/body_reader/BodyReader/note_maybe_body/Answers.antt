@@ -3,7 +3,7 @@ use Rattle.std.proofs.lemmas.Result.{on_ok_weaker}
 use Rattle.mol_faults_misread.proofs.body_misreads_lemmas.Noting.{notes, notes-none}
 use Rattle.mol_faults_misread.proofs.body_misreads.body_reader.BodyReader.note_maybe_body.Goals as goal
 use Rattle.mol_spell_rules.specs.UnitCells.{references_in}
-use Rattle.mol_values.specs.declared.value.Value.TheVariants as values
+use Rattle.mol_values_types.specs.declared.value.Value.TheVariants as values
 
 pub returns-in-Some : goal.returns-in-Some
 returns-in-Some g c =

@@ -4,7 +4,7 @@ use Rattle.mol_faults_misread.proofs.body_misreads.body_reader.BodyReader.note_p
 use Rattle.mol_faults_misread.specs.body_misreads.PartReferences.{declared_references}
 use Rattle.mol_faults_expr.proofs.NotedMore.{noted-more, noted-whole}
 use Rattle.mol_resolve_rules.specs.Locals.{no_locals}
-use Rattle.mol_values.specs.declared.param.Param.{Param}
+use Rattle.mol_values_types.specs.declared.param.Param.{Param}
 
 pub loop-param-init : goal.loop-param-init
 loop-param-init g c = notes-none (g.P.Places.writer c.args.self.now.places.now) c.args.misreads.now _ refl

@@ -4,7 +4,7 @@ use Rattle.mol_faults_expr.specs.Noted.{Noted}
 use Rattle.mol_faults_misread.proofs.misread_faults.cells.FileCells.add_cell.Goals as goal
 use Rattle.mol_faults_misread.specs.misread_faults.Found.{found_at, kept_name}
 use Rattle.mol_base.proofs.Added.{adds}
-use Rattle.mol_table.specs.Program.{cell}
+use Rattle.mol_table_rules.specs.Program.{cell}
 
 pub returns : goal.returns
 returns g c =

@@ -3,8 +3,8 @@ use Rattle.std.proofs.lemmas.Result.{on_ok_weaker}
 use Rattle.mol_faults_misread.proofs.misread_faults_lemmas.SameFile.{three-cells}
 use Rattle.mol_faults_misread.proofs.misread_faults.cells.FileCells.add_declaration.Goals as goal
 use Rattle.mol_faults_misread.specs.misread_faults.Found.{kept_name}
-use Rattle.mol_table.specs.Program.{cell}
-use Rattle.mol_values.specs.declared.cell.Slot.TheVariants as slots
+use Rattle.mol_table_rules.specs.Program.{cell}
+use Rattle.mol_values_types.specs.declared.cell.Slot.TheVariants as slots
 
 pub returns : goal.returns
 returns g c =

@@ -5,9 +5,9 @@ use Rattle.std.specs.Prelude.{OnOk}
 use Rattle.mol_faults_misread.proofs.misread_faults_lemmas.SameFile.{one-cell}
 use Rattle.mol_faults_misread.proofs.misread_faults.cells.FileCells.add_member.Goals as goal
 use Rattle.mol_faults_misread.specs.misread_faults.Found.{kept_name, member_misreads}
-use Rattle.mol_table.specs.Program.{cell}
-use Rattle.mol_values.specs.declared.cell.Slot.TheVariants as slots
-use Rattle.mol_values.specs.declared.known.Known.{Known}
+use Rattle.mol_table_rules.specs.Program.{cell}
+use Rattle.mol_values_types.specs.declared.cell.Slot.TheVariants as slots
+use Rattle.mol_values_types.specs.declared.known.Known.{Known}
 
 pub returns-in-Field : goal.returns-in-Field
 returns-in-Field g c =

@@ -5,7 +5,7 @@ use Rattle.mol_faults_misread.proofs.misread_faults_lemmas.Scoped.{cell-read}
 use Rattle.mol_faults_misread.proofs.misread_faults.cells.FileCells.misreads_in.Goals as goal
 use Rattle.mol_faults_misread.specs.misread_faults.Scopes.{in_constructor, params_in}
 use Rattle.mol_spell_rules.specs.UnitCells.{references_in}
-use Rattle.mol_table.specs.Program.{Program, value_at}
+use Rattle.mol_table_rules.specs.Program.{Program, value_at}
 
 pub note_value-requires : goal.note_value-requires
 note_value-requires g c =

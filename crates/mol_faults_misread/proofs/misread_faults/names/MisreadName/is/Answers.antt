@@ -1,7 +1,7 @@
 use Rattle.std.proofs.Common.{◌==◌, ◌&&◌, sym, ◌∙◌}
 use Rattle.mol_faults_rules.specs.Kept.{kept_target}
 use Rattle.mol_faults_misread.specs.misread_faults.Found.{same_target}
-use Rattle.mol_values.proofs.Ties.{cell_ties}
+use Rattle.mol_values_types.proofs.Ties.{cell_ties}
 use Rattle.mol_faults_misread.proofs.misread_faults.names.MisreadName.is.Goals as goal
 
 pub returns-then-eq : goal.returns-then-eq

@@ -1,6 +1,6 @@
 use Rattle.std.proofs.Common.{◌+◌, ◌<◌, ◌≤◌, List, length, sym, ◌∙◌, ap, arith}
 use Rattle.jav_scope.specs.declared.source.SourceUnit.{SourceUnit}
-use Rattle.mol_table.specs.Renumber.{base_id}
+use Rattle.mol_table_rules.specs.Renumber.{base_id}
 use Rattle.mol_resolve_members.specs.places.Orders.{numbers_by_path, position}
 use Rattle.mol_resolve_members.proofs.numbers_lemmas.IdsFound.{class-id, class-id_after}
 use Rattle.mol_resolve_members.proofs.numbers_lemmas.NumbersHeld.{class-fits}

@@ -1,6 +1,6 @@
 use Rattle.std.proofs.Common.{◌+◌, List, length, sym, ◌∙◌, ap, subst, arith}
 use Rattle.jav_scope.specs.declared.source.SourceUnit.{SourceUnit}
-use Rattle.mol_table.specs.Renumber.{base_id}
+use Rattle.mol_table_rules.specs.Renumber.{base_id}
 use Rattle.mol_resolve_members.specs.places.Listings.{HasMember, key_of}
 use Rattle.mol_resolve_members.specs.numbers.Members.{place_of}
 use Rattle.mol_resolve_members.proofs.numbers_lemmas.IdsFound.{member-id}

@@ -1,5 +1,5 @@
 use Rattle.std.proofs.Common.{sym, ◌∙◌, ap}
-use Rattle.mol_table.specs.Renumber.{base_id}
+use Rattle.mol_table_rules.specs.Renumber.{base_id}
 use Rattle.mol_resolve_members.specs.places.Listings.{key_of}
 use Rattle.mol_resolve_members.proofs.numbers_lemmas.IdsFound.{method-id}
 use Rattle.mol_resolve_members.proofs.numbers_lemmas.MethodNumbers.{method-fits}

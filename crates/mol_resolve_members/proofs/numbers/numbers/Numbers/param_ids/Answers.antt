@@ -1,6 +1,6 @@
 use Rattle.std.proofs.Common.{◌≡◌, ◌+◌, ◌≤◌, ◌∷◌, ◌++◌, [], ℕ, map, sym, ◌∙◌, ap, arith}
 use Rattle.std.proofs.lemmas.List.FromFn.{map-range_with_len_more}
-use Rattle.mol_table.specs.Renumber.{base_id}
+use Rattle.mol_table_rules.specs.Renumber.{base_id}
 use Rattle.mol_resolve_members.specs.places.Listings.{key_of}
 use Rattle.mol_resolve_rules.specs.Numbering.{below}
 use Rattle.mol_resolve_rules.proofs.FilesStand.{some-same}

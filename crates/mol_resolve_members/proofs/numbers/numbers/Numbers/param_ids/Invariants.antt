@@ -1,7 +1,7 @@
 use Rattle.std.proofs.Common.{◌≡◌, ◌+◌, map}
 use Rattle.mol_resolve_members.specs.places.Listings.{key_of}
 use Rattle.mol_resolve_rules.specs.Numbering.{below}
-use Rattle.mol_table.specs.Renumber.{base_id}
+use Rattle.mol_table_rules.specs.Renumber.{base_id}
 use Rattle.mol_resolve_members.specs.numbers.Given.{method_number}
 use Rattle.mol_resolve_members.proofs.numbers.numbers.Numbers.param_ids.Given as goal
 

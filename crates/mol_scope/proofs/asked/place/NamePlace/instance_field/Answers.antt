@@ -3,7 +3,7 @@ use Rattle.jav_scope.specs.declared.found.Found.TheVariants as answer
 use Rattle.mol_scope.proofs.asked_lemmas.FoundMembers.{is_static_field}
 use Rattle.mol_scope.proofs.asked_lemmas.MembersAnswered.{field-on}
 use Rattle.mol_spell_rules.specs.references.References.{field_target}
-use Rattle.mol_table.specs.Program.{Program}
+use Rattle.mol_table_rules.specs.Program.{Program}
 use Rattle.mol_scope.proofs.asked.place.NamePlace.instance_field.Goals as goal
 
 pub returns-then-is_static_field : goal.returns-then-is_static_field

@@ -4,7 +4,7 @@ use Rattle.jav_scope.specs.Climbs.{above}
 use Rattle.mol_scope.proofs.asked_lemmas.SupersAnswered.{answer_to, super-above, super-nothing, super-outside, supers}
 use Rattle.mol_base.specs.declared.ident.Id.{Id}
 use Rattle.mol_resolve_rules.specs.ProgramViews.{program_view}
-use Rattle.mol_table.specs.Program.{Program}
+use Rattle.mol_table_rules.specs.Program.{Program}
 use Rattle.mol_scope.proofs.asked.place.NamePlace.super_constructor.Goals as goal
 
 -- what `super(..)` reads as outside constructors, and in them

@@ -1,7 +1,7 @@
 use Rattle.std.proofs.Common.{◌≡◌, ◌∙◌, ◌++◌, ◌∷◌, sym, ap}
 use Rattle.jav_names.specs.DottedNames.{dot}
 use Rattle.jav_names.specs.LookUps.{class_named, class_or_written}
-use Rattle.mol_table.specs.Program.{Program, package_at}
+use Rattle.mol_table_rules.specs.Program.{Program, package_at}
 use Rattle.mol_scope.proofs.typenames_lemmas.SimpleTypes.{simple-imported, simple-own, simple-near}
 use Rattle.mol_scope.specs.typenames.Readings.{classes_of}
 use Rattle.mol_scope.proofs.typenames.class_file.ClassFile.simple.Goals as goal

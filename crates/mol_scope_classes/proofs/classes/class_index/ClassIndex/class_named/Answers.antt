@@ -6,7 +6,7 @@ use Rattle.mol_base.specs.declared.ident.Id.{Id}
 use Rattle.jav_names.specs.id_index.Seeking.{is_sought}
 use Rattle.jav_names.specs.declared.id_index.entry.Entry.{Entry}
 use Rattle.mol_resolve_rules.specs.ProgramViews.{program_view}
-use Rattle.mol_table.specs.Program.{Program}
+use Rattle.mol_table_rules.specs.Program.{Program}
 use Rattle.mol_scope_classes.proofs.classes_lemmas.ClassesFound.{class-found}
 use Rattle.mol_scope_classes.proofs.classes.class_index.ClassIndex.class_named.Goals as goal
 

@@ -1,7 +1,7 @@
 use Rattle.std.proofs.Common.{◌≡◌, [], ◌∷◌, ◌++◌, Some, cond, length, take}
 use Rattle.std.specs.List.{list_any}
 use Rattle.mol_base.specs.declared.ident.Id.{Id}
-use Rattle.mol_table.specs.Program.{same_id}
+use Rattle.mol_table_rules.specs.Program.{same_id}
 use Rattle.mol_scope_classes.specs.hierarchy.Forest.{top_place}
 use Rattle.mol_scope_classes.specs.hierarchy.Placed.{number_in}
 use Rattle.mol_scope_classes.proofs.hierarchy.forest.Forest.add_top.Given as goal

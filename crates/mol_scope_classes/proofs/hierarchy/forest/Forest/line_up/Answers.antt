@@ -1,13 +1,13 @@
 use Rattle.std.proofs.Common.{◌≡◌, ◌∷◌, ◌++◌, ◌∙◌, [], ◌<◌, List, ℕ, Some, None, sym, ap, subst, take, drop, length, option_copied}
 use Rattle.mol_base.specs.Order.{id_cmp, id_cmp-total}
 use Rattle.mol_base.specs.declared.ident.Id.{Id}
-use Rattle.mol_table.specs.Heights.{upward}
-use Rattle.mol_values.proofs.Lookups.{get_is}
-use Rattle.mol_values.proofs.Ties.{id_ties}
-use Rattle.mol_values.specs.Order.{id_eq}
+use Rattle.mol_table_rules.specs.Heights.{upward}
+use Rattle.mol_values_types.proofs.Lookups.{get_is}
+use Rattle.mol_values_types.proofs.Ties.{id_ties}
+use Rattle.mol_values_types.specs.Order.{id_eq}
 use Rattle.mol_scope_classes.specs.hierarchy.Forest.{top_place}
 use Rattle.mol_scope_classes.specs.hierarchy.Placed.{number_in, ArePlaced, AreNew, IsLine, Adds, Keeps}
-use Rattle.mol_table.specs.Tops.{Leads}
+use Rattle.mol_table_rules.specs.Heights.{Leads}
 use Rattle.mol_scope_classes.proofs.hierarchy_lemmas.LinesTopped.{pushed, unmet-before, same-keys, found-at, circle-ended, pushed-new, last-ended, ended-placed, ended-line, ended-kept, ended-unplaced, of-line, of-state}
 use Rattle.mol_scope_classes.proofs.hierarchy_lemmas.OnWays.{left, fewer-left, appended, above-known}
 use Rattle.mol_scope_classes.proofs.hierarchy_lemmas.Tops.{leads-push}

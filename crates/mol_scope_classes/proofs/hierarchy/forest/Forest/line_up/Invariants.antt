@@ -2,7 +2,7 @@ use Rattle.std.proofs.Common.{Some}
 use Rattle.std.specs.FinMap.{get}
 use Rattle.std.specs.Prelude.{IsSome}
 use Rattle.mol_scope_classes.specs.hierarchy.Placed.{AreNew, ArePlaced, Keeps}
-use Rattle.mol_table.specs.Tops.{Leads}
+use Rattle.mol_table_rules.specs.Heights.{Leads}
 use Rattle.mol_scope_classes.proofs.hierarchy_lemmas.OnWays.{left}
 use Rattle.mol_scope_classes.proofs.hierarchy.forest.Forest.line_up.Given as goal
 

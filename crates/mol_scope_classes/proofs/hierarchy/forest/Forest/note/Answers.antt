@@ -1,8 +1,8 @@
 use Rattle.std.proofs.Common.{◌≡◌, ◌∙◌, List, sym, subst, false}
 use Rattle.std.specs.List.{list_any}
 use Rattle.mol_base.specs.declared.ident.Id.{Id}
-use Rattle.mol_table.specs.Program.{same_id}
-use Rattle.mol_values.proofs.Ties.{any_tied}
+use Rattle.mol_table_rules.specs.Program.{same_id}
+use Rattle.mol_values_types.proofs.Ties.{any_tied}
 use Rattle.mol_scope_classes.specs.hierarchy.Placed.{IsLine}
 use Rattle.mol_scope_classes.proofs.hierarchy_lemmas.LinesNoted.{noted-placed, noted-line, noted-kept, noted-new}
 use Rattle.mol_scope_classes.proofs.hierarchy.forest.Forest.note.Goals as goal

@@ -1,11 +1,11 @@
 use Rattle.std.proofs.Common.{◌≡◌, ◌∙◌, None, sym, ap, option_copied}
 use Rattle.mol_base.specs.Order.{id_cmp, id_cmp-total}
 use Rattle.mol_base.specs.declared.ident.Id.{Id}
-use Rattle.mol_table.specs.Ancestors.{is_on_way}
-use Rattle.mol_table.specs.Program.{Program}
-use Rattle.mol_values.proofs.Lookups.{get_is}
-use Rattle.mol_values.proofs.Ties.{id_ties}
-use Rattle.mol_values.specs.Order.{id_eq}
+use Rattle.mol_table_rules.specs.Ancestors.{is_on_way}
+use Rattle.mol_table_rules.specs.Program.{Program}
+use Rattle.mol_values_types.proofs.Lookups.{get_is}
+use Rattle.mol_values_types.proofs.Ties.{id_ties}
+use Rattle.mol_values_types.specs.Order.{id_eq}
 use Rattle.mol_scope_classes.specs.hierarchy.Placed.{number_in}
 use Rattle.mol_scope_classes.proofs.hierarchy_lemmas.Asked.{alone-asked, placed-asked, unplaced-asked}
 use Rattle.mol_scope_classes.proofs.hierarchy.hierarchy.Hierarchy.is_on_way.Goals as goal

@@ -1,6 +1,6 @@
 use Rattle.std.proofs.Common.{◌≡◌, None, Some, Contains, take}
 use Rattle.mol_base.specs.declared.ident.Id.{Id}
-use Rattle.mol_table.specs.Heights.{upward}
+use Rattle.mol_table_rules.specs.Heights.{upward}
 use Rattle.mol_scope_classes.specs.hierarchy.Placed.{number_in, ArePlaced}
 use Rattle.mol_scope_classes.proofs.hierarchy.hierarchy.Hierarchy.new.Given as goal
 

@@ -3,9 +3,9 @@ use Rattle.std.specs.FinMap.{get, from_entries}
 use Rattle.std.specs.Option.{option_map_or}
 use Rattle.mol_base.specs.Order.{id_cmp, id_cmp-total}
 use Rattle.mol_base.specs.declared.ident.Id.{Id}
-use Rattle.mol_values.proofs.Lookups.{get_is}
-use Rattle.mol_values.proofs.Ties.{id_ties}
-use Rattle.mol_values.specs.Order.{id_eq}
+use Rattle.mol_values_types.proofs.Lookups.{get_is}
+use Rattle.mol_values_types.proofs.Ties.{id_ties}
+use Rattle.mol_values_types.specs.Order.{id_eq}
 use Rattle.mol_scope_classes.proofs.hierarchy.paths.Drawing.last.Goals as goal
 
 pub returns-in-Some : goal.returns-in-Some

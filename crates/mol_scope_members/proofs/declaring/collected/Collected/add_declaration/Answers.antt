@@ -2,7 +2,7 @@ use Rattle.std.proofs.Common.{Option, Some, None, subst}
 use Rattle.std.proofs.lemmas.Result.{on_ok_weaker}
 use Rattle.jav_names.specs.Views.{ViewDeclaration}
 use Rattle.mol_base.specs.declared.ident.Id.{Id}
-use Rattle.mol_values.specs.declared.known.Known.TheVariants as knowns
+use Rattle.mol_values_types.specs.declared.known.Known.TheVariants as knowns
 use Rattle.mol_scope_members.specs.declaring.Collecting.{Adds}
 use Rattle.mol_scope_members.specs.declaring.MemberEntries.{declaring_entry}
 use Rattle.mol_scope_members.proofs.declaring_lemmas.MembersAdded.{adds-both, declaration-lives}

@@ -1,6 +1,6 @@
 use Rattle.std.proofs.Common.{Some, sym, subst}
 use Rattle.std.specs.Prelude.{OnOk}
-use Rattle.mol_values.specs.declared.known.Known.{Known}
+use Rattle.mol_values_types.specs.declared.known.Known.{Known}
 use Rattle.mol_scope_members.specs.declaring.Collecting.{AddsKnown}
 use Rattle.mol_scope_members.proofs.declaring_lemmas.MembersAdded.{adds-none}
 use Rattle.mol_scope_members.proofs.declaring.collected.Collected.add_known.Goals as goal

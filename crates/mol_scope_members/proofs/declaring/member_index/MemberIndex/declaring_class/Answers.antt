@@ -1,6 +1,6 @@
 use Rattle.std.proofs.Common.{◌∙◌, ap, subst}
 use Rattle.std.specs.Option.{option_and_then}
-use Rattle.mol_table.specs.Program.{Program, owner_at}
+use Rattle.mol_table_rules.specs.Program.{Program, owner_at}
 use Rattle.mol_scope_members.specs.declaring.Indexed.{AreIndexed}
 use Rattle.mol_scope_members.proofs.declaring_lemmas.DeclaringFound.{declaring-class}
 use Rattle.mol_scope_members.proofs.declaring.member_index.MemberIndex.declaring_class.Goals as goal

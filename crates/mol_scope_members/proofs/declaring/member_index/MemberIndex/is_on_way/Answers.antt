@@ -1,7 +1,7 @@
 use Rattle.std.proofs.Common.{◌∙◌, ap}
 use Rattle.mol_scope_members.proofs.declaring.member_index.MemberIndex.is_on_way.Goals as goal
-use Rattle.mol_table.specs.Ancestors.{is_on_way}
-use Rattle.mol_table.specs.Program.{Program}
+use Rattle.mol_table_rules.specs.Ancestors.{is_on_way}
+use Rattle.mol_table_rules.specs.Program.{Program}
 
 pub returns : goal.returns
 returns c =

@@ -1,11 +1,11 @@
 use Rattle.std.proofs.Common.{subst}
 use Rattle.mol_scope_classes.specs.hierarchy.Paths.{ArePaths}
-use Rattle.mol_table.specs.Program.{Program}
+use Rattle.mol_table_rules.specs.Program.{Program}
 use Rattle.mol_scope_members.specs.declaring.Indexed.{AreOwned}
 use Rattle.mol_scope_members.proofs.declaring_lemmas.OwnersNamed.{no-field}
 use Rattle.mol_scope_members.proofs.declaring.member_index.MemberIndex.nearest_field_owner.Goals as goal
 use Rattle.mol_resolve_rules.specs.ProgramViews.{program_view}
-use Rattle.mol_table.proofs.Living.{id_tied}
+use Rattle.mol_table_rules.proofs.Living.{id_tied}
 
 pub nearest-requires : goal.nearest-requires
 nearest-requires c = c.self.invariant.2.field_owners.placed

@@ -1,6 +1,6 @@
 use Rattle.std.proofs.Common.{◌∙◌, sym, subst}
 use Rattle.mol_scope_classes.specs.hierarchy.Paths.{ArePaths}
-use Rattle.mol_table.specs.Program.{Program}
+use Rattle.mol_table_rules.specs.Program.{Program}
 use Rattle.mol_scope_members.specs.declaring.Indexed.{AreIndexed, AreOwned}
 use Rattle.mol_scope_members.proofs.declaring.member_index.MemberIndex.new.Goals as goal
 

@@ -5,13 +5,13 @@ use Rattle.std.proofs.lemmas.List.Sorted.{IsPartitionPoint-from_clause}
 use Rattle.jav_names.proofs.index_lemmas.Searched.{equal-is}
 use Rattle.jav_names.specs.DottedNames.{Name}
 use Rattle.mol_base.specs.declared.ident.Id.{Id}
-use Rattle.mol_table.proofs.Counts.{none-some, some-same}
+use Rattle.mol_table_rules.proofs.Counts.{none-some, some-same}
 use Rattle.mol_scope_members.specs.declaring.Owners.{ArePlaced, IsNearest, path_cmp, path_of, place_cmp, placed_row}
 use Rattle.mol_scope_members.specs.declared.declaring.nearest.Nearest.{Nearest}
 use Rattle.mol_scope_members.specs.declared.declaring.owner.PlacedOwner.{PlacedOwner}
 use Rattle.mol_scope_members.proofs.declaring_lemmas.OwnersNear.{found-low, nearest-found, nearest-top}
 use Rattle.mol_scope_members.proofs.declaring_lemmas.OwnersPlaced.{parted-up-to, path-same, path_cmp-total}
-use Rattle.mol_table.specs.Program.{Program}
+use Rattle.mol_table_rules.specs.Program.{Program}
 use Rattle.mol_scope_members.proofs.declaring.owners.Owners.nearest.Goals.{in_default-via-in-Some+else-is_eq, in_default-via-in_default}
 use Rattle.mol_scope_members.proofs.declaring.owners.Owners.nearest.Goals as goal
 

@@ -1,10 +1,10 @@
 use Rattle.std.proofs.Common.{◌∙◌, None, cond, sym, ap}
 use Rattle.mol_base.specs.Order.{id_cmp, id_cmp-total}
 use Rattle.mol_base.specs.declared.ident.Id.{Id}
-use Rattle.mol_table.specs.Renumber.{topmost}
-use Rattle.mol_values.proofs.Lookups.{get_is}
-use Rattle.mol_values.proofs.Ties.{id_ties, any_tied}
-use Rattle.mol_values.specs.Order.{id_eq}
+use Rattle.mol_table_rules.specs.Renumber.{topmost}
+use Rattle.mol_values_types.proofs.Lookups.{get_is}
+use Rattle.mol_values_types.proofs.Ties.{id_ties, any_tied}
+use Rattle.mol_values_types.specs.Order.{id_eq}
 use Rattle.mol_scope_members.specs.topmost.Highest.{top_in}
 use Rattle.mol_scope_members.proofs.topmost.topmost.Topmost.decl.Goals as goal
 

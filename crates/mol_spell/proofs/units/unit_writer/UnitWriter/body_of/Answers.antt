@@ -2,10 +2,10 @@ use Rattle.std.proofs.Common.{◌∙◌, Option, Some, sym, ap}
 use Rattle.jav_tree.specs.declared.stmt.Block.{Block}
 use Rattle.mol_spell_rules.specs.SpelledUnits.{body_in}
 use Rattle.mol_spell.proofs.units.unit_writer.UnitWriter.body_of.Goals as goal
-use Rattle.mol_values.specs.declared.cell.Slot.TheVariants as slots
-use Rattle.mol_values.specs.declared.iblock.IBody.{IBody}
-use Rattle.mol_values.specs.declared.value.Value.{Value}
-use Rattle.mol_values.specs.declared.value.Value.TheVariants as values
+use Rattle.mol_values_types.specs.declared.cell.Slot.TheVariants as slots
+use Rattle.mol_values_types.specs.declared.iblock.IBody.{IBody}
+use Rattle.mol_values_types.specs.declared.value.Value.{Value}
+use Rattle.mol_values_types.specs.declared.value.Value.TheVariants as values
 
 pub returns-in_ok-block-in-Some-Body-Some : goal.returns-in_ok-block-in-Some-Body-Some
 returns-in_ok-block-in-Some-Body-Some g c =

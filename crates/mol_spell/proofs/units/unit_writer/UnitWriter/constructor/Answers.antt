@@ -7,7 +7,7 @@ use Rattle.jav_tree.specs.declared.unit.Member.{Member}
 use Rattle.jav_tree.specs.declared.unit.Member.TheVariants as members
 use Rattle.jav_tree.specs.declared.unit.Param.{Param as ParamName}
 use Rattle.mol_spell_rules.specs.SpelledUnits.{body_tree}
-use Rattle.mol_table.specs.Program.{Program}
+use Rattle.mol_table_rules.specs.Program.{Program}
 use Rattle.mol_spell.proofs.units_lemmas.MadeOf.{moved, with_last}
 use Rattle.mol_spell.proofs.units.unit_writer.UnitWriter.constructor.Goals as goal
 use Rattle.mol_spell.specs.units.Headings.{member_head}

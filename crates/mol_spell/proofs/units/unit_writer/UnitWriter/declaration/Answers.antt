@@ -3,7 +3,7 @@ use Rattle.jav_tree.specs.declared.unit.Member.{Member}
 use Rattle.mol_spell_rules.specs.SpelledUnits.{declaration_member}
 use Rattle.mol_spell.proofs.units_lemmas.MembersListed.{declared-kind}
 use Rattle.mol_spell.proofs.units.unit_writer.UnitWriter.declaration.Goals as goal
-use Rattle.mol_values.specs.declared.known.Known.{Known}
+use Rattle.mol_values_types.specs.declared.known.Known.{Known}
 
 pub returns-in_ok-member-in-Some-Method : goal.returns-in_ok-member-in-Some-Method
 returns-in_ok-member-in-Some-Method g c =

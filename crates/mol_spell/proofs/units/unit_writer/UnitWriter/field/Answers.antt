@@ -3,8 +3,8 @@ use Rattle.jav_tree.specs.declared.unit.Field.{Field}
 use Rattle.jav_tree.specs.declared.unit.Member.TheVariants as member
 use Rattle.mol_spell_rules.specs.SpelledUnits.{field_member}
 use Rattle.mol_spell.proofs.units.unit_writer.UnitWriter.field.Goals as goal
-use Rattle.mol_values.specs.declared.value.Value.{Value}
-use Rattle.mol_values.specs.declared.value.Value.TheVariants as values
+use Rattle.mol_values_types.specs.declared.value.Value.{Value}
+use Rattle.mol_values_types.specs.declared.value.Value.TheVariants as values
 
 pub returns-in_ok-field-in-Some-Value : goal.returns-in_ok-field-in-Some-Value
 returns-in_ok-field-in-Some-Value g c =

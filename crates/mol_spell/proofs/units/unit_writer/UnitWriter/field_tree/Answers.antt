@@ -2,7 +2,7 @@ use Rattle.std.proofs.Common.{ap, ◌∙◌}
 use Rattle.std.proofs.lemmas.Result.{IfOk-weaker}
 use Rattle.mol_spell_body.proofs.HandedOver.{with_part}
 use Rattle.mol_spell.proofs.units.unit_writer.UnitWriter.field_tree.Goals as goal
-use Rattle.mol_table.specs.Program.{Program, name_at}
+use Rattle.mol_table_rules.specs.Program.{Program, name_at}
 use Rattle.mol_spell.specs.units.Headings.{member_head}
 
 pub returns : goal.returns

@@ -3,7 +3,7 @@ use Rattle.std.specs.Prelude.{IfOk}
 use Rattle.jav_tree.specs.declared.unit.Member.{Member}
 use Rattle.mol_spell_rules.specs.SpelledUnits.{spelled_member}
 use Rattle.mol_spell.proofs.units.unit_writer.UnitWriter.member.Goals as goal
-use Rattle.mol_values.specs.declared.known.Known.{Known}
+use Rattle.mol_values_types.specs.declared.known.Known.{Known}
 
 pub returns-in-Field : goal.returns-in-Field
 returns-in-Field g c =

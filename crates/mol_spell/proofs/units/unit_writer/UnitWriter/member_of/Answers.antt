@@ -3,7 +3,7 @@ use Rattle.std.specs.Prelude.{IfOk}
 use Rattle.jav_tree.specs.declared.unit.Member.{Member}
 use Rattle.mol_spell.proofs.units.unit_writer.UnitWriter.member_of.Goals as goal
 use Rattle.mol_spell.specs.units.MemberTrees.{member_of_kind}
-use Rattle.mol_values.specs.declared.kind.MethodKind.{MethodKind}
+use Rattle.mol_values_types.specs.declared.kind.MethodKind.{MethodKind}
 
 pub returns-in-Instance : goal.returns-in-Instance
 returns-in-Instance g c =

@@ -2,7 +2,7 @@ use Rattle.std.proofs.Common.{ap, Option, ◌∙◌}
 use Rattle.jav_tree.specs.declared.stmt.Block.{Block}
 use Rattle.jav_tree.specs.declared.unit.Member.TheVariants as members
 use Rattle.mol_spell_rules.specs.SpelledUnits.{body_tree}
-use Rattle.mol_table.specs.Program.{Program}
+use Rattle.mol_table_rules.specs.Program.{Program}
 use Rattle.mol_spell.proofs.units_lemmas.MadeOf.{moved, with_last}
 use Rattle.mol_spell.proofs.units.unit_writer.UnitWriter.method.Goals as goal
 use Rattle.mol_spell.specs.units.Headings.{member_head}

@@ -1,7 +1,7 @@
 use Rattle.std.proofs.Common.{◌∙◌}
 use Rattle.std.proofs.lemmas.Result.{IfOk-weaker}
 use Rattle.mol_spell_rules.specs.UnitCells.{cell_writer}
-use Rattle.mol_table.specs.Program.{cell}
+use Rattle.mol_table_rules.specs.Program.{cell}
 use Rattle.mol_spell.proofs.units.unit_writer.UnitWriter.names_at.Goals as goal
 
 pub returns : goal.returns

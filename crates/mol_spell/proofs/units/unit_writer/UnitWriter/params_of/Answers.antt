@@ -1,12 +1,12 @@
 use Rattle.std.proofs.Common.{◌∙◌, List, map, ap}
 use Rattle.mol_spell_rules.specs.SimpleNames.{unit_writer}
 use Rattle.mol_spell_rules.specs.Writers.{Writer}
-use Rattle.mol_table.specs.Program.{Program, cell, params_at}
+use Rattle.mol_table_rules.specs.Program.{Program, cell, params_at}
 use Rattle.mol_spell.proofs.units_lemmas.MadeOf.{moved}
 use Rattle.mol_spell.proofs.units.unit_writer.UnitWriter.params_of.Goals as goal
 use Rattle.mol_spell.specs.units.MemberTrees.{param_tree}
-use Rattle.mol_values.specs.declared.cell.Slot.TheVariants as slots
-use Rattle.mol_values.specs.declared.param.Param.{Param}
+use Rattle.mol_values_types.specs.declared.cell.Slot.TheVariants as slots
+use Rattle.mol_values_types.specs.declared.param.Param.{Param}
 
 pub returns : goal.returns
 returns g c =

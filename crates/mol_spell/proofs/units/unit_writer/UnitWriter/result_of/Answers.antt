@@ -3,13 +3,13 @@ use Rattle.std.specs.Prelude.{IfOk}
 use Rattle.jav_tree.specs.declared.types.TypeName.{TypeName}
 use Rattle.mol_spell_rules.specs.SimpleNames.{unit_writer}
 use Rattle.mol_spell_rules.specs.SpelledUnits.{result_tree}
-use Rattle.mol_table.specs.Program.{cell}
+use Rattle.mol_table_rules.specs.Program.{cell}
 use Rattle.mol_spell.proofs.units_lemmas.MadeOf.{chosen}
 use Rattle.mol_spell.proofs.units.unit_writer.UnitWriter.result_of.Goals as goal
 use Rattle.mol_spell.specs.units.MemberTrees.{type_tree}
-use Rattle.mol_values.specs.declared.cell.Slot.{Slot}
-use Rattle.mol_values.specs.declared.cell.Slot.TheVariants as slots
-use Rattle.mol_values.specs.declared.value.Value.{Value}
+use Rattle.mol_values_types.specs.declared.cell.Slot.{Slot}
+use Rattle.mol_values_types.specs.declared.cell.Slot.TheVariants as slots
+use Rattle.mol_values_types.specs.declared.value.Value.{Value}
 
 pub returns-in-Some-Result : goal.returns-in-Some-Result
 returns-in-Some-Result g c =

@@ -1,6 +1,6 @@
 use Rattle.std.proofs.Common.{ap, ◌∙◌}
 use Rattle.mol_spell.proofs.units.unit_writer.UnitWriter.signature.Goals as goal
-use Rattle.mol_table.specs.Program.{Program, name_at}
+use Rattle.mol_table_rules.specs.Program.{Program, name_at}
 
 pub returns : goal.returns
 returns g c = λ i. record {

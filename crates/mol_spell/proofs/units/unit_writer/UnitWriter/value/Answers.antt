@@ -1,5 +1,5 @@
 use Rattle.std.proofs.Common.{◌∙◌, ap}
-use Rattle.mol_table.specs.Program.{Program, value_at}
+use Rattle.mol_table_rules.specs.Program.{Program, value_at}
 use Rattle.mol_spell.proofs.units.unit_writer.UnitWriter.value.Goals as goal
 
 pub returns : goal.returns

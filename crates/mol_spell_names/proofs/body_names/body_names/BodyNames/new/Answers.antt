@@ -3,7 +3,7 @@ use Rattle.std.specs.FinMap.{get}
 use Rattle.mol_spell_names.proofs.body_names_lemmas.PlacesRead.{writer-is}
 use Rattle.mol_spell_names.proofs.body_names.body_names.BodyNames.new.Goals as goal
 use Rattle.mol_spell_names.specs.body_names.FilePlaces.{declared_in, param_names_in}
-use Rattle.mol_table.specs.Program.{Program}
+use Rattle.mol_table_rules.specs.Program.{Program}
 
 pub invariant_of-result : goal.invariant_of-result
 invariant_of-result g c =

@@ -5,8 +5,8 @@ use Rattle.jav_names.specs.DottedNames.{Name}
 use Rattle.mol_spell_names.proofs.body_names.places.BodyNamesPlaces.param_name.Goals as goal
 use Rattle.mol_resolve_rules.specs.StaticTypes.{present_param}
 use Rattle.mol_spell_rules.specs.SpelledExpressions.{no_name}
-use Rattle.mol_table.specs.Program.{Program}
-use Rattle.mol_values.specs.declared.param.Param.{Param}
+use Rattle.mol_table_rules.specs.Program.{Program}
+use Rattle.mol_values_types.specs.declared.param.Param.{Param}
 
 abbrev name_in : Option Param → Name
 name_in found = option_map_or (λ (param : Param). param.name) found no_name

@@ -8,7 +8,7 @@ use Rattle.mol_spell_names.specs.body_names.FilePlaces.{reader_in}
 use Rattle.mol_spell_names.specs.body_names.FoundAs.{is_field_found}
 use Rattle.mol_resolve_rules.specs.Readers.{place_of}
 use Rattle.mol_spell_rules.specs.SpelledExpressions.{is_field}
-use Rattle.mol_table.specs.Program.{Program, name_at}
+use Rattle.mol_table_rules.specs.Program.{Program, name_at}
 
 pub returns-then-not-has_field_above : goal.returns-then-not-has_field_above
 returns-then-not-has_field_above g c =

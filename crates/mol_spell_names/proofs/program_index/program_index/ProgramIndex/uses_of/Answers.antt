@@ -2,8 +2,8 @@ use Rattle.std.proofs.Common.{◌≡◌, ◌∙◌, subst}
 use Rattle.std.specs.Map.{lookup}
 use Rattle.mol_spell_names.proofs.program_index.program_index.ProgramIndex.uses_of.Goals as goal
 use Rattle.mol_spell_names.specs.program_index.KeptUses.{living_uses}
-use Rattle.mol_table.specs.Program.{Program}
-use Rattle.mol_values.specs.Order.{id_eq}
+use Rattle.mol_table_rules.specs.Program.{Program}
+use Rattle.mol_values_types.specs.Order.{id_eq}
 
 pub returns : goal.returns
 returns c =

@@ -3,7 +3,7 @@ use Rattle.std.specs.Prelude.{OnOk}
 use Rattle.mol_spell_names.proofs.uses_lemmas.MembersUsed.{cell-uses}
 use Rattle.mol_spell_names.proofs.uses.file_cells.FileCells.add_cell.Goals as goal
 use Rattle.mol_spell_rules.specs.Writers.{Use}
-use Rattle.mol_table.specs.Program.{Program, cell, value_at}
+use Rattle.mol_table_rules.specs.Program.{Program, cell, value_at}
 
 pub returns-in-Ok : goal.returns-in-Ok
 returns-in-Ok c =

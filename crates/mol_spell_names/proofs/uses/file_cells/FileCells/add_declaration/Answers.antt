@@ -1,8 +1,8 @@
 use Rattle.std.proofs.lemmas.Result.{on_ok_weaker}
 use Rattle.mol_spell_names.proofs.uses_lemmas.MembersUsed.{three-cells}
 use Rattle.mol_spell_names.proofs.uses.file_cells.FileCells.add_declaration.Goals as goal
-use Rattle.mol_table.specs.Program.{cell}
-use Rattle.mol_values.specs.declared.cell.Slot.TheVariants as slots
+use Rattle.mol_table_rules.specs.Program.{cell}
+use Rattle.mol_values_types.specs.declared.cell.Slot.TheVariants as slots
 
 pub returns : goal.returns
 returns c =

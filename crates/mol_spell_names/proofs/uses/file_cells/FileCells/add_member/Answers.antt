@@ -5,9 +5,9 @@ use Rattle.std.specs.Prelude.{OnOk}
 use Rattle.mol_spell_names.proofs.uses_lemmas.MembersUsed.{one-cell}
 use Rattle.mol_spell_names.proofs.uses.file_cells.FileCells.add_member.Goals as goal
 use Rattle.mol_spell_names.specs.uses.CellUses.{member_uses}
-use Rattle.mol_table.specs.Program.{cell}
-use Rattle.mol_values.specs.declared.cell.Slot.TheVariants as slots
-use Rattle.mol_values.specs.declared.known.Known.{Known}
+use Rattle.mol_table_rules.specs.Program.{cell}
+use Rattle.mol_values_types.specs.declared.cell.Slot.TheVariants as slots
+use Rattle.mol_values_types.specs.declared.known.Known.{Known}
 
 pub returns-in-Field : goal.returns-in-Field
 returns-in-Field c =

@@ -5,7 +5,7 @@ use Rattle.mol_spell_uses.proofs.body_uses_lemmas.ValueUses.{field-used, held-bo
 use Rattle.mol_spell_uses.proofs.body_uses.body_uses.BodyUses.add_held.Goals as goal
 use Rattle.mol_spell_uses.specs.body_uses.PartUses.{value_uses}
 use Rattle.mol_spell_uses.proofs.uses_lemmas.Added.{adds-none}
-use Rattle.mol_values.specs.declared.value.Value.TheVariants as values
+use Rattle.mol_values_types.specs.declared.value.Value.TheVariants as values
 
 pub returns-in-Live : goal.returns-in-Live
 returns-in-Live g c =

@@ -3,7 +3,7 @@ use Rattle.std.proofs.lemmas.Result.{on_ok_weaker}
 use Rattle.mol_spell_uses.proofs.body_uses.body_uses.BodyUses.add_maybe_body.Goals as goal
 use Rattle.mol_spell_uses.specs.body_uses.PartUses.{value_uses}
 use Rattle.mol_spell_uses.proofs.uses_lemmas.Added.{adds, adds-none}
-use Rattle.mol_values.specs.declared.value.Value.TheVariants as values
+use Rattle.mol_values_types.specs.declared.value.Value.TheVariants as values
 
 pub returns-in-Some : goal.returns-in-Some
 returns-in-Some g c =

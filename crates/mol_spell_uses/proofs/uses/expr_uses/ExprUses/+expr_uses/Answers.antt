@@ -7,7 +7,7 @@ use Rattle.mol_spell_uses.proofs.uses_lemmas.Added.{adds, adds-both, adds-more, 
 use Rattle.mol_spell_uses.proofs.uses_lemmas.UsesNodes as nodes
 use Rattle.mol_spell_uses.proofs.uses.expr_uses.ExprUses.+expr_uses.Goals as goal
 use Rattle.mol_spell_uses.specs.uses.Uses.{all_uses, argument_uses, created_uses, expr_uses, form_uses, type_uses}
-use Rattle.mol_values.specs.declared.iexpr.Argument.{Argument}
+use Rattle.mol_values_types.specs.declared.iexpr.Argument.{Argument}
 
 -- # Each kind of expression
 

@@ -3,10 +3,10 @@ use Rattle.std.proofs.Common.{◌≡◌, ℕ, ◌+◌, ◌*◌, List, ◌++◌, 
 use denote.Param.Weighed.{most}
 use Rattle.mol_spell_uses.proofs.uses.expr_uses.ExprUses.+expr_uses.Given as goal
 use Rattle.mol_spell_uses.specs.uses.Uses.{all_uses, argument_uses}
-use Rattle.mol_values.proofs.iexpr.Argument.TheLaws.{the_size as argument_size}
-use Rattle.mol_values.proofs.iexpr.IExpr.TheLaws.{the_size}
-use Rattle.mol_values.specs.declared.iexpr.Argument.{Argument}
-use Rattle.mol_values.specs.declared.iexpr.IExpr.{IExpr}
+use Rattle.mol_values_types.proofs.iexpr.Argument.TheLaws.{the_size as argument_size}
+use Rattle.mol_values_types.proofs.iexpr.IExpr.TheLaws.{the_size}
+use Rattle.mol_values_types.specs.declared.iexpr.Argument.{Argument}
+use Rattle.mol_values_types.specs.declared.iexpr.IExpr.{IExpr}
 
 -- the greatest size of several
 abbrev highest : List IExpr → ℕ

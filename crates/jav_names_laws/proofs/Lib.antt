@@ -1,0 +1,10 @@
+pub mod AboveAlike
+pub mod ChoicesAlike
+pub mod HasKeys
+pub mod ListsAlike
+pub mod LooksAlike
+pub mod Numbered
+pub mod Strange
+pub mod TypesAlike
+pub mod ViewsMatch
+pub mod WaysAlike

@@ -1,0 +1,14 @@
+pub mod BodiesAlike
+pub mod ExpressionsAlike
+pub mod FoundStands
+pub mod MembersAlike
+pub mod NamesAlike
+pub mod NumberedPrograms
+pub mod OutcomesAlike
+pub mod ReadByNumbers
+pub mod ReadingsAlike
+pub mod RenamedAsThemselves
+pub mod RenamedStatements
+pub mod RenamedTrees
+pub mod StatementsAlike
+pub mod TypesAlike

@@ -1,6 +1,0 @@
-use Rattle.std.proofs.Common.{◌≡◌, map, take}
-use Rattle.mol_base.specs.Paths.{slash_for_dot}
-use Rattle.mol_table.proofs.maps.Maps.path.Given as goal
-
-abbrev pub invariant-loop-byte : goal.invariant-loop-byte
-invariant-loop-byte l = l.path.items ≡ map slash_for_dot (take l.byte-index l.byte-items)

@@ -1,6 +1,0 @@
-use Rattle.std.proofs.Common.{◌≡◌, map, take}
-use Rattle.mol_table.specs.declared.renumber.classes.ClassFile.{ClassFile}
-use Rattle.mol_table.proofs.renumber.classes.class_ids.Given as goal
-
-abbrev pub invariant-loop-file : goal.invariant-loop-file
-invariant-loop-file l = l.ids.items ≡ map (λ (file : ClassFile). file.class) (take l.file-index l.files)

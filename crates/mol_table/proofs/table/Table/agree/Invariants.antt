@@ -1,7 +1,0 @@
-use Rattle.std.proofs.Common.{ℕ, ◌<◌, get_or}
-use Rattle.mol_table.specs.Agreement.{AgreeAt}
-use Rattle.mol_values.specs.declared.cell.Slot.{Slot}
-use Rattle.mol_table.proofs.table.Table.agree.Given as goal
-
-abbrev pub invariant-loop-slot : goal.invariant-loop-slot
-invariant-loop-slot l = (k : ℕ) (d : Slot) → k < l.slot-index → AgreeAt l.self l.other l.id (get_or l.slots k d)

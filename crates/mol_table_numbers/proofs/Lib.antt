@@ -1,0 +1,15 @@
+pub mod Agreeing
+pub mod Collected
+pub mod HeightsFound
+pub mod InOrder
+pub mod KnownKeys
+pub mod Orders
+pub mod RenamedBlocks
+pub mod RenamedExpressions
+pub mod RenamedForms
+pub mod RenamedMaps
+pub mod RenamedValues
+pub mod RenumberRules
+pub mod Renumbering
+pub mod TopsFound
+pub mod TopsSearched

@@ -1,0 +1,5 @@
+pub mod Agreement
+pub mod ClassFiles
+pub mod Looked
+pub mod Numbering
+pub mod Tops
