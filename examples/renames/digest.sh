@@ -1,6 +1,6 @@
 #!/usr/bin/env bash
-# Prints the digest of a base folder as a log's header names it: SHA-256, by sha256sum, of each Java file in
-# the order of the paths by bytes, as its path below the folder, LF, its length in decimal, LF, its bytes.
+# Prints the digest of a base folder whose sources are in the one layout, as a log's header names it: SHA-256, by sha256sum, of each
+# Java file in the order of the paths by bytes, as its path below the folder, LF, its length in decimal, LF, its bytes.
 # Usage: examples/renames/digest.sh BASE
 set -euo pipefail
 cd "$1"

@@ -1,4 +1,3 @@
-pub mod DataTexts
 pub mod EntriesRead
 pub mod EntriesWritten
 pub mod LogAnswers
@@ -6,7 +5,6 @@ pub mod LogKept
 pub mod LogLaws
 pub mod MembersInOrder
 pub mod NextEntries
-pub mod ParamItems
 pub mod ReadBack
 pub mod RowTexts
 pub mod WrittenLogs

@@ -8,7 +8,7 @@ use Rattle.mol_log_rows.specs.rows.RowData.{row_pairs}
 use Rattle.mol_log_rows.specs.declared.rows.row.Row.{Row}
 use Rattle.mol_log_rows.specs.declared.rows.row.Row.TheVariants.{AddClass, AddField, AddMethod, AddOverride, AddConstructor, Delete, SetBody}
 use Rattle.mol_log_rows.specs.declared.rows.row.Row.TheVariants.{SetValue, RenameClass, RenameMethod, MoveClass, MoveMethod, ChangeSignature}
-use Rattle.mol_log.specs.Members.{put_pairs}
+use Rattle.mol_log_objects.specs.Members.{put_pairs}
 
 -- after the stamp
 pub in_order : (at : Data) (row : Row)

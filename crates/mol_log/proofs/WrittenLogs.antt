@@ -16,7 +16,7 @@ use Rattle.mol_log_rows.specs.lines.Lines.{Line, IsShort, ended, is_end, lines_f
 use Rattle.mol_log.specs.entries.Entries.{recorded_of}
 use Rattle.mol_log.specs.entries.EntryForms.{IsEntry}
 use Rattle.mol_log.specs.declared.entries.entry.Entry.{Entry}
-use Rattle.mol_log.proofs.DataTexts.{is_inner, is_line}
+use Rattle.mol_log_objects.proofs.DataTexts.{is_inner, is_line}
 use Rattle.mol_log.proofs.RowTexts.{header-line, row-line}
 use Rattle.mol_log.specs.Form.{IsLogText, header_of}
 use Rattle.mol_log.specs.LogForms.{Follow, IsLog}

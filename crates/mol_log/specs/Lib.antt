@@ -1,7 +1,6 @@
 pub mod Form
 pub mod LogForms
 pub mod LogLines
-pub mod Members
 pub mod NextEntry
 pub mod Reading
 pub mod Written

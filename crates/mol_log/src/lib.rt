@@ -4,9 +4,7 @@
 mod copies;
 mod entries;
 mod log;
-mod object;
 mod objects;
-mod parts;
 mod reading;
 mod writing;
 

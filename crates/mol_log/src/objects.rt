@@ -3,12 +3,12 @@ ghost use Rattle.std.specs.Prelude.{◌≡◌, IfOk, OnOk};
 ghost use Rattle.serde_json.specs.View.{view};
 ghost use Rattle.mol_log.specs.entries.RowsOf.{row_of};
 ghost use Rattle.mol_log_rows.specs.rows.RowData.{row_pairs};
-ghost use Rattle.mol_log.specs.Members.{members_in, put_pairs};
+ghost use Rattle.mol_log_objects.specs.Members.{members_in, put_pairs};
 ghost use Rattle.mol_log.specs.Written.{entry_data};
 
 use crate::entries::Entry;
-use crate::object::Object;
 use mol_base::OutOfMemory;
+use mol_log_objects::Object;
 use mol_op::{
     AddClass, AddConstructor, AddField, AddMethod, AddOverride, ChangeSignature, Delete, MoveClass,
     MoveMethod, Op, RenameClass, RenameMethod, SetBody, SetValue,

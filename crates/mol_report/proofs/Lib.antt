@@ -1,1 +1,2 @@
 pub mod DeclarationAddresses
+pub mod IdLines

@@ -52,6 +52,13 @@ impl<'a> Labels<'a> {
         })
     }
 
+    /// The base itself.
+    pub(crate) fn base(&self) -> &'a Table
+        ensures { result.now ≡ self.now }
+    {
+        self.base
+    }
+
     /// Appends an identity with its label, a dot and the word of a slot.
     pub(crate) fn push_cell(
         &self,
@@ -84,7 +91,12 @@ impl<'a> Labels<'a> {
     }
 
     /// Appends the address that an identity has in the base, or `added`.
-    fn push_label(&self, alloc: Global, out: &mut Vec<u8>, id: &Id) -> Result<(), OutOfMemory>
+    pub(crate) fn push_label(
+        &self,
+        alloc: Global,
+        out: &mut Vec<u8>,
+        id: &Id,
+    ) -> Result<(), OutOfMemory>
         ensures { OnOk result (out.new.items ≡ out.old.items ++ label self.now id.now) }
     {
         match self.base.known(*id) {

@@ -1,9 +1,11 @@
-//! The texts of faults, as reports write them.
+//! The identities and the faults of programs, as reports write them.
 #![tactic(auto)]
 
 mod addresses;
 mod fault_text;
+mod ids;
 mod labels;
 mod slots;
 
 pub use fault_text::fault_line;
+pub use ids::id_lines;

@@ -180,3 +180,5 @@ pub either_order : (c : Command) (h : Contents) → IsSameInEitherOrder c h
 either_order (Command.merge w) h = same_swapped w h
 either_order (Command.check w) h = tt
 either_order (Command.fmt w) h = tt
+either_order (Command.ids w) h = tt
+either_order (Command.replay w) h = tt

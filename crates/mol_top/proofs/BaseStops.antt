@@ -1,12 +1,12 @@
 -- What stops the reading of a base, and a command that begins with it.
-use Rattle.std.proofs.Common.{◌≡◌, ◌⊎◌, inl, inr, ℕ, Bool, true, false, List, refl, sym, ◌∙◌, ap, subst}
+use Rattle.std.proofs.Common.{◌≡◌, ◌⊎◌, inl, inr, ℕ, Bool, true, false, List, refl, sym, ◌∙◌, ap, subst, arith}
 use Rattle.std.specs.Prelude.{Some}
 use Rattle.mol_base.specs.declared.file.File.{File}
 use Rattle.mol_base.specs.Files.{FilePair, file_pairs}
 use Rattle.mol_outside.specs.Contents.{Contents}
 use Rattle.mol_program.specs.Programs.{IsReadAs}
 use Rattle.mol_table_rules.specs.Program.{Program}
-use Rattle.mol_top.proofs.Stopping.{said_plain, store_plain}
+use Rattle.mol_top.proofs.Stopping.{StopsBy-later, said_plain, store_plain}
 use Rattle.mol_top.specs.Answers.{store_status}
 use Rattle.mol_top.specs.Bases.{BaseRefuses, IsBaseOf, RefuseFiles, RefuseProgram}
 use Rattle.mol_top.specs.CleanBases.{HasBaseLine, HasBaseLineBy, IsBaseStopped}
@@ -24,20 +24,15 @@ use Rattle.mol_top.specs.declared.fault.StoreFault.TheVariants as stores
 use Rattle.mol_top.specs.declared.refusal.Refusal.{Refusal}
 use Rattle.mol_top.specs.declared.status.BaseFault.TheVariants.{Source, Unclean}
 use Rattle.mol_top.specs.declared.status.Status.{Status}
-use Rattle.mol_top.specs.declared.status.Status.TheVariants.{BaseRefused, Done, Conflicts, Usage, ReadFailed, WriteFailed, OutOfMemory}
+use Rattle.mol_top.specs.declared.status.Status.TheVariants.{BaseRefused, OutOfMemory}
 
 -- # From the reading of a base to a command
 
-StopsBy-more : (n0 n1 : List ℕ → Type 0) (old new : Store) (r0 r1 : Contents → Status → Type 0) (s : Status)
+pub StopsBy-more : (n0 n1 : List ℕ → Type 0) (old new : Store) (r0 r1 : Contents → Status → Type 0) (s : Status)
     → ((path : List ℕ) → n1 path → n0 path) → ((h : Contents) (s : Status) → r1 h s → r0 h s)
     → StopsBy n1 old new r1 s → StopsBy n0 old new r0 s
-StopsBy-more n0 n1 old new r0 r1 OutOfMemory named more stops = tt
-StopsBy-more n0 n1 old new r0 r1 (ReadFailed p) named more stops = (stops.0, named p stops.1)
-StopsBy-more n0 n1 old new r0 r1 Done named more stops = stops
-StopsBy-more n0 n1 old new r0 r1 (Conflicts n) named more stops = stops
-StopsBy-more n0 n1 old new r0 r1 Usage named more stops = stops
-StopsBy-more n0 n1 old new r0 r1 (WriteFailed p) named more stops = stops
-StopsBy-more n0 n1 old new r0 r1 s named more stops = λ h e. more h s (stops h e)
+StopsBy-more n0 n1 old new r0 r1 s named more stops =
+    StopsBy-later n0 n1 old old new r0 r1 s named (record { held = refl; reads = omega arith; writes = refl }) (λ h e s r. more h s r) stops
 
 line-more : (b : Bool) (c : Command) (base : List ℕ) (store : Store) (refusal : Refusal)
     → ((h : Contents) (s : Status) (line : List ℕ) → IsProgramLine base h s line → IsAddressesLine c h s line)

@@ -1,7 +1,10 @@
 -- What `fmt` makes of a base, and what stops it after that was read.
 use Rattle.std.proofs.Common.{◌≡◌, ◌⊎◌, inl, inr, ℕ, refl, sym, ◌∙◌, ap, subst, List, arith}
-use Rattle.std.specs.Prelude.{None, Some}
+use Rattle.std.specs.Option.{option_or}
+use Rattle.std.specs.Prelude.{Option, None, Some}
 use Rattle.mol_outside.specs.Contents.{Contents}
+use Rattle.mol_spell_files.specs.ProgramTexts.{program_texts}
+use Rattle.mol_spell_files.specs.declared.limits.LimitFault.{LimitFault}
 use Rattle.mol_spell_rules.specs.Clean.{Clean}
 use Rattle.mol_table_rules.specs.Program.{Program}
 use Rattle.mol_table_rules.specs.Rules.{IsProgram as KeepsRules}
@@ -13,23 +16,24 @@ use Rattle.mol_top.specs.Answers.{limit_status, store_status}
 use Rattle.mol_top.specs.Bases.{IsBaseOf, IsCleanBase}
 use Rattle.mol_top.specs.Carried.{Carries, CarriesOwn, IsInOut, IsInput, IsInside, IsRead, NoPath}
 use Rattle.mol_top.specs.Command.{Command, FmtWords, fmt_paths}
-use Rattle.mol_top.specs.Formatting.{FmtRefuses, MakesFiles, fmt_outcome, output_refusal, program_heights, program_texts}
-use Rattle.mol_top.specs.Output.{texts_refusal}
+use Rattle.mol_top.specs.Formatting.{FmtRefuses, MakesFiles, fmt_outcome, output_refusal, program_refusal}
 use Rattle.mol_top.specs.Outside.{IfTold, OnlyReads, Store}
 use Rattle.mol_top.specs.Prepared.{IsStopped, Prepares, StopsCommand}
-use Rattle.mol_top.specs.ProgramWork.{IsCleanWork, IsProgramStopped}
+use Rattle.mol_top.specs.ProgramWork.{IsCleanWork, IsFilesWork, IsProgramStopped, StopsLarge}
 use Rattle.mol_top.specs.Refusals.{out_refusal}
 use Rattle.mol_top.specs.Report.{line_bytes, refusal_line}
 use Rattle.mol_top.specs.Steps.{Only, Stops}
-use Rattle.mol_top.specs.declared.fault.LimitFault.{LimitFault}
 use Rattle.mol_top.specs.declared.fault.StoreFault.{StoreFault}
-use Rattle.mol_top.specs.declared.fault.StoreFault.TheVariants.{OutOfMemory, ReadFailed, Limit}
+use Rattle.mol_top.specs.declared.fault.StoreFault.TheVariants.{OutOfMemory, OutInUse, ReadFailed, Missing, Limit}
 use Rattle.mol_top.specs.declared.output.Work.{Work}
 use Rattle.mol_top.specs.declared.refusal.Refusal.{Refusal}
 use Rattle.mol_top.specs.declared.status.Status.{Status}
 use Rattle.mol_top.specs.declared.status.Status.TheVariants.{OutOfMemory as no_memory}
 
 -- # The files of a program
+
+skip_none : (first second : Option Status) → first ≡ None → option_or first second ≡ second
+skip_none first second none = ap (λ o. option_or o second) none
 
 module _ (out : List ℕ) (program : Program) where
   -- their folder is in use
@@ -40,14 +44,23 @@ module _ (out : List ℕ) (program : Program) where
   occupied old new fault stops = λ h e. rw (stops h e) refl
 
   -- they pass a limit
-  pub too_large : (held : Contents) (fault : LimitFault) → out_refusal out held ≡ None
-      → texts_refusal (program_texts program) (program_heights program) ≡ Some (limit_status fault)
+  too_large : (held : Contents) (fault : LimitFault) → out_refusal out held ≡ None → program_refusal program ≡ Some (limit_status fault)
       → output_refusal out program held ≡ Some (store_status (Limit fault))
-  too_large held fault free refused = rw (free, refused) refl
+  too_large held fault free refused = skip_none (out_refusal out held) (program_refusal program) free ∙ refused
 
-  pub allowed : (held : Contents) → out_refusal out held ≡ None → texts_refusal (program_texts program) (program_heights program) ≡ None
-      → output_refusal out program held ≡ None
-  allowed held free small = rw (free, small) refl
+  pub large : (old new : Store) (fault : StoreFault) → IfTold old.held (λ h. out_refusal out h ≡ None) → StopsLarge program fault
+      → Stops (Only out) old new (output_refusal out program) fault
+  large old new OutOfMemory free stops = tt
+  large old new (Limit fault) free stops = λ h e. too_large h fault (free h e) stops
+  large old new (ReadFailed p) free stops = absurd stops
+  large old new (Missing p) free stops = absurd stops
+  large old new (OutInUse p) free stops = absurd stops
+
+  pub allowed : (held : Contents) (work : Work) → out_refusal out held ≡ None → IsFilesWork out program work → MakesFiles out program held work
+  allowed held work free is = record {
+    allowed = skip_none (out_refusal out held) (program_refusal program) free ∙ is.allowed;
+    is = is.is;
+  }
 
 -- # The command
 

@@ -3,8 +3,12 @@ pub mod BaseStops
 pub mod Carrying
 pub mod CheckedBases
 pub mod FormattedFiles
+pub mod ListedBases
+pub mod LogLimits
 pub mod ReadBases
+pub mod ReadLogs
 pub mod ReadingBack
+pub mod ReplayedLogs
 pub mod ReadingFiles
 pub mod SortedPaths
 pub mod Stopping

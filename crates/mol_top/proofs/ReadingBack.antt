@@ -1,4 +1,4 @@
--- What `fmt` writes reads back, and is in the one layout.
+-- What `fmt` and `replay` write reads back, and is in the one layout.
 use Rattle.std.proofs.Common.{◌≡◌, ◌≤◌, ℕ, Bool, true, false, cond, List, [], ◌∷◌, map, refl, sym, ◌∙◌, ap, subst, arith}
 use Rattle.std.specs.Prelude.{None, Some, All, Option, option_map, find, nat_lt}
 use Rattle.std.specs.Option.{option_or}
@@ -17,32 +17,49 @@ use Rattle.jav_tree.specs.WithParens.{unit_with_parens}
 use Rattle.mol_base.specs.Limits.{most}
 use Rattle.mol_base.specs.declared.limit.Which.TheVariants.{Height}
 use Rattle.mol_outside.specs.Contents.{Contents}
+use Rattle.mol_replay.proofs.Rules.{rules-left}
+use Rattle.mol_spell_files.specs.FileLimits.{files_limit, long_text, long_texts, many_files, passing, tall_tree}
+use Rattle.mol_spell_files.specs.ProgramTexts.{printed_height, program_heights, program_texts}
+use Rattle.mol_spell_files.specs.declared.limits.LimitFault.{LimitFault}
 use Rattle.mol_spell_laws.proofs.Files.{files_printable}
 use Rattle.mol_spell_laws.specs.PrintableFiles.{IsPrintableFile}
 use Rattle.jav_source.specs.Sources.{IsUnitOf}
+use Rattle.mol_spell_rules.specs.Clean.{Clean}
 use Rattle.mol_spell_rules.specs.SpelledUnits.{SpelledUnit, spelling}
-use Rattle.mol_top.specs.Command.{Command}
-use Rattle.mol_top.specs.Formatting.{printed_height, program_heights, program_texts}
-use Rattle.mol_top.specs.Output.{long_text, long_texts, tall_tree, texts_refusal}
-use Rattle.mol_top.specs.ReadBack.{FilesReadBack, IsReadBack}
+use Rattle.mol_table_rules.specs.Program.{Program}
+use Rattle.mol_table_rules.specs.Rules.{IsProgram as KeepsRules}
+use Rattle.mol_top.specs.Answers.{limit_status}
+use Rattle.mol_top.specs.Command.{Command, FmtWords, ReplayWords}
+use Rattle.mol_top.specs.Formatting.{FmtComesTo, program_refusal}
+use Rattle.mol_top.specs.Output.{Outcome}
+use Rattle.mol_top.specs.ReadBack.{FilesReadBack, FmtReadsBack, IsReadBack, ReplayReadsBack}
 use Rattle.mol_top.specs.Refusals.{out_refusal}
+use Rattle.mol_top.specs.Replaying.{ReplayComesTo, left_by}
 use Rattle.mol_top.specs.declared.status.Status.{Status}
-use Rattle.mol_top.specs.declared.status.Status.TheVariants.{Limit}
-
-second_none : (o p : Option Status) → option_or o p ≡ None → p ≡ None
-second_none None p e = e
-second_none (Some status) p e = absurd cc
 
 -- # Heights within the limit
 
 abbrev tall : ℕ → Bool
 tall = nat_lt (most Height)
 
-none_tall : (heights : List ℕ) → tall_tree heights ≡ None → find tall heights ≡ None
-none_tall heights e = at (find tall heights) e where
-  at : (o : Option ℕ) → option_map (Limit Height) o ≡ None → o ≡ None
-  at None e = refl
-  at (Some height) e = absurd cc
+second_none : (first second : Option LimitFault) → option_or first second ≡ None → second ≡ None
+second_none None second e = e
+second_none (Some fault) second e = absurd cc
+
+none_mapped : {A B : Type 0} (f : A → B) (o : Option A) → option_map f o ≡ None → o ≡ None
+none_mapped f None e = refl
+none_mapped f (Some a) e = absurd cc
+
+-- no tree of a program that passes no limit is too high
+none_tall : (program : Program) → program_refusal program ≡ None → find tall (program_heights program) ≡ None
+none_tall program allowed =
+    let texts = program_texts program in
+    let heights = program_heights program in
+    let within : files_limit texts heights ≡ None = none_mapped limit_status (files_limit texts heights) allowed in
+    none_mapped (passing Height) (find tall heights)
+    (second_none (long_texts 0 texts) (tall_tree heights)
+    (second_none (long_text texts) (option_or (long_texts 0 texts) (tall_tree heights))
+    (second_none (many_files texts) (option_or (long_text texts) (option_or (long_texts 0 texts) (tall_tree heights))) within)))
 
 none_in : (height : ℕ) (heights : List ℕ) → find tall (height ∷ heights) ≡ None → (height ≤ most Height) × (find tall heights ≡ None)
 none_in height heights e = at (tall height) refl e where
@@ -80,17 +97,49 @@ all_back (file ∷ files) all low =
     All-cons IsReadBack file files (file_back file (All-head IsPrintableFile file files all) within.0)
     (all_back files (All-tail IsPrintableFile file files all) within.1)
 
+-- # Commands
+
+-- the files of a clean program within the limits
+sources_back : (program : Program) → KeepsRules program → Clean program → program_refusal program ≡ None → All IsReadBack (spelling program)
+sources_back program rules clean allowed =
+    all_back (spelling program) (files_printable.clean program rules clean) (none_tall program allowed)
+
+second_allowed : (first second : Option Status) → option_or first second ≡ None → second ≡ None
+second_allowed None second e = e
+second_allowed (Some status) second e = absurd cc
+
+fmt_back : (words : FmtWords) (held : Contents) (outcome : Outcome) → FmtComesTo words held outcome → FmtReadsBack words held outcome
+fmt_back words held outcome comes = record {
+  program = comes.program;
+  base = comes.base;
+  writes = record {
+    files = ap (λ outcome. outcome.files) comes.is;
+    read_back = sources_back comes.program comes.base.rules comes.base.clean
+        (second_allowed (out_refusal words.out held) (program_refusal comes.program) comes.allowed);
+  };
+}
+
+-- what a log leaves keeps the rules of programs, as its base does
+replay_back : (words : ReplayWords) (held : Contents) (outcome : Outcome) → ReplayComesTo words held outcome
+    → ReplayReadsBack words held outcome
+replay_back words held outcome comes =
+    let over = comes.comes in
+    record {
+      base = comes.base;
+      log = over.log;
+      clean = comes.clean;
+      there = over.has.there;
+      replays = over.replays;
+      writes = record {
+        files = ap (λ outcome. outcome.files) over.is;
+        read_back = sources_back (left_by comes.base over.log) (rules-left comes.base over.log over.replays comes.clean.rules)
+            over.replays.clean over.allowed;
+      };
+    }
+
 pub files_read_back : (c : Command) (held : Contents) → FilesReadBack c held
+files_read_back (Command.fmt words) held = fmt_back words held
+files_read_back (Command.replay words) held = replay_back words held
 files_read_back (Command.merge words) held = tt
 files_read_back (Command.check words) held = tt
-files_read_back (Command.fmt words) held = λ outcome comes.
-    let texts = program_texts comes.program in
-    let heights = program_heights comes.program in
-    let small : texts_refusal texts heights ≡ None = second_none (out_refusal words.out held) (texts_refusal texts heights) comes.allowed in
-    let low = none_tall heights (second_none (long_texts 0 texts) _ (second_none (long_text texts) _ small)) in
-    record {
-      program = comes.program;
-      base = comes.base;
-      files = ap (λ outcome. outcome.files) comes.is;
-      read_back = all_back (spelling comes.program) (files_printable.clean comes.program comes.base.rules comes.base.clean) low;
-    }
+files_read_back (Command.ids words) held = tt

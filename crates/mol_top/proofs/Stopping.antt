@@ -8,11 +8,12 @@ use Rattle.mol_top.specs.Outcome.{ByNames}
 use Rattle.mol_top.specs.Outside.{OnlyReads, Store}
 use Rattle.mol_top.specs.Prepared.{HasItsLine, StopsCommand}
 use Rattle.mol_top.specs.Report.{line_bytes, names_addresses, refusal_line}
-use Rattle.mol_top.specs.Steps.{Stops}
+use Rattle.mol_top.specs.Steps.{Stops, StopsBy}
 use Rattle.mol_top.specs.declared.fault.StoreFault.{StoreFault}
 use Rattle.mol_top.specs.declared.fault.StoreFault.TheVariants.{OutOfMemory, ReadFailed, Missing, OutInUse, Limit}
 use Rattle.mol_top.specs.declared.refusal.Refusal.{Refusal}
 use Rattle.mol_top.specs.declared.status.Status.{Status}
+use Rattle.mol_top.specs.declared.status.Status.TheVariants as statuses
 use Rattle.mol_top.specs.declared.status.Status.TheVariants.{OutOfMemory as no_memory}
 
 -- one step after another
@@ -31,6 +32,18 @@ pub Stops-later : (n0 n1 : List ℕ → Type 0) (old mid new : Store) (r0 r1 : C
 Stops-later n0 n1 old mid new r0 r1 OutOfMemory named before more stops = tt
 Stops-later n0 n1 old mid new r0 r1 (ReadFailed p) named before more stops = (omega (arith, before.reads, stops.0), named p stops.1)
 Stops-later n0 n1 old mid new r0 r1 fault named before more stops = λ h e. more h e (stops h (before.held ∙ e))
+
+-- so is a command, or a part of it
+pub StopsBy-later : (n0 n1 : List ℕ → Type 0) (old mid new : Store) (r0 r1 : Contents → Status → Type 0) (s : Status)
+    → ((path : List ℕ) → n1 path → n0 path) → OnlyReads old mid → ((h : Contents) → old.held ≡ Some h → (s : Status) → r1 h s → r0 h s)
+    → StopsBy n1 mid new r1 s → StopsBy n0 old new r0 s
+StopsBy-later n0 n1 old mid new r0 r1 statuses.OutOfMemory named before more stops = tt
+StopsBy-later n0 n1 old mid new r0 r1 (statuses.ReadFailed p) named before more stops = (omega (arith, before.reads, stops.0), named p stops.1)
+StopsBy-later n0 n1 old mid new r0 r1 statuses.Done named before more stops = stops
+StopsBy-later n0 n1 old mid new r0 r1 (statuses.Conflicts n) named before more stops = stops
+StopsBy-later n0 n1 old mid new r0 r1 statuses.Usage named before more stops = stops
+StopsBy-later n0 n1 old mid new r0 r1 (statuses.WriteFailed p) named before more stops = stops
+StopsBy-later n0 n1 old mid new r0 r1 s named before more stops = λ h e. more h e s (stops h (before.held ∙ e))
 
 -- # Refusals
 

@@ -6,7 +6,6 @@ use Rattle.mol_base.specs.declared.file.File.{File}
 use Rattle.mol_top.specs.Answers.{store_status}
 use Rattle.mol_top.specs.Command.{NamedPaths, joined}
 use Rattle.mol_top.specs.Files.{is_java}
-use Rattle.mol_top.specs.declared.fault.LimitFault.{LimitFault}
 use Rattle.mol_top.specs.declared.fault.StoreFault.{StoreFault}
 use Rattle.mol_top.specs.declared.output.Work.{Work}
 use Rattle.mol_top.specs.declared.status.Status.{Status}
@@ -23,10 +22,6 @@ IsInside folder path = (below : List ℕ) × (path ≡ joined folder below)
 -- a base, or a path below it that ends in `.java`
 abbrev pub IsSourcePath : List ℕ → List ℕ → Type 0
 IsSourcePath base path = (path ≡ base) ⊎ ((below : List ℕ) × (is_java below ≡ true) × (path ≡ joined base below))
-
--- the number of a limit is above it
-abbrev pub IsAbove : LimitFault → Type 0
-IsAbove fault = most fault.which < fault.number
 
 -- An answer carries such a path: one that was not read, an input that is missing, a file that is in use or whose write failed, for which the
 -- empty path is that of what is printed; and a number above its limit.

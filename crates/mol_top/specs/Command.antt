@@ -18,11 +18,23 @@ pub record FmtWords : Type 0 where
   pub base : List ℕ
   pub out : List ℕ
 
+-- `ids BASE`
+pub record IdsWords : Type 0 where
+  pub base : List ℕ
+
+-- `replay BASE LOG OUT`
+pub record ReplayWords : Type 0 where
+  pub base : List ℕ
+  pub log : List ℕ
+  pub out : List ℕ
+
 -- a command with its words
 pub data Command : Type 0 where
   merge : MergeWords → Command
   check : CheckWords → Command
   fmt : FmtWords → Command
+  ids : IdsWords → Command
+  replay : ReplayWords → Command
 
 -- the word of a command
 abbrev pub is_verb : List ℕ → List ℕ → Bool
@@ -35,9 +47,13 @@ is_path word = not (length word == 0)
 -- The command that the words spell, if they spell one. Each of its paths is a path.
 abbrev pub command : List (List ℕ) → Option Command
 command (verb ∷ base ∷ []) =
-    if is_verb verb (codes "check") && is_path base then Some (Command.check (record { base = base })) else None
+    if is_verb verb (codes "check") && is_path base then Some (Command.check (record { base = base }))
+    else if is_verb verb (codes "ids") && is_path base then Some (Command.ids (record { base = base })) else None
 command (verb ∷ base ∷ out ∷ []) =
     if is_verb verb (codes "fmt") && is_path base && is_path out then Some (Command.fmt (record { base = base; out = out })) else None
+command (verb ∷ base ∷ log ∷ out ∷ []) =
+    if is_verb verb (codes "replay") && is_path base && is_path log && is_path out
+    then Some (Command.replay (record { base = base; log = log; out = out })) else None
 command (verb ∷ base ∷ first ∷ second ∷ out ∷ []) =
     if is_verb verb (codes "merge") && is_path base && is_path first && is_path second && is_path out
     then Some (Command.merge (record { base = base; first = first; second = second; out = out })) else None
@@ -68,7 +84,15 @@ check_paths words = record { base = words.base; inputs = []; out = None }
 abbrev pub fmt_paths : FmtWords → NamedPaths
 fmt_paths words = record { base = words.base; inputs = []; out = Some words.out }
 
+abbrev pub ids_paths : IdsWords → NamedPaths
+ids_paths words = record { base = words.base; inputs = []; out = None }
+
+abbrev pub replay_paths : ReplayWords → NamedPaths
+replay_paths words = record { base = words.base; inputs = words.log ∷ []; out = Some words.out }
+
 abbrev pub paths_of : Command → NamedPaths
 paths_of (Command.merge words) = merge_paths words
 paths_of (Command.check words) = check_paths words
 paths_of (Command.fmt words) = fmt_paths words
+paths_of (Command.ids words) = ids_paths words
+paths_of (Command.replay words) = replay_paths words

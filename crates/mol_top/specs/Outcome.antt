@@ -4,8 +4,10 @@ use Rattle.mol_outside.specs.Contents.{Contents, appended, HasRisen}
 use Rattle.mol_top.specs.Checking.{CheckRefuses, CheckComesTo}
 use Rattle.mol_top.specs.Command.{Command, paths_of}
 use Rattle.mol_top.specs.Formatting.{FmtRefuses, FmtComesTo}
+use Rattle.mol_top.specs.Listing.{IdsRefuses, IdsComesTo}
 use Rattle.mol_top.specs.Outside.{IfTold, State, Store}
 use Rattle.mol_top.specs.Output.{Outcome, written_all}
+use Rattle.mol_top.specs.Replaying.{ReplayRefuses, ReplayComesTo}
 use Rattle.mol_top.specs.Report.{names_addresses, refusal_line}
 use Rattle.mol_top.specs.Steps.{IsNamed, IsRefusal, IsFinal, HasFailed, HasPart, IsCutAt, IsUnreported}
 use Rattle.mol_top.specs.UncleanLines.{IsProgramLine}
@@ -23,18 +25,24 @@ abbrev pub Refuses : Command → Contents → Status → Type 0
 Refuses (Command.merge words) held status = refusal words held ≡ Some status
 Refuses (Command.check words) held status = CheckRefuses words held status
 Refuses (Command.fmt words) held status = FmtRefuses words held status
+Refuses (Command.ids words) held status = IdsRefuses words held status
+Refuses (Command.replay words) held status = ReplayRefuses words held status
 
 -- nothing refuses it, and it comes to this
 abbrev pub ComesTo : Command → Contents → Outcome → Type 0
 ComesTo (Command.merge words) held outcome = MergeComesTo words held outcome
 ComesTo (Command.check words) held outcome = CheckComesTo words held outcome
 ComesTo (Command.fmt words) held outcome = FmtComesTo words held outcome
+ComesTo (Command.ids words) held outcome = IdsComesTo words held outcome
+ComesTo (Command.replay words) held outcome = ReplayComesTo words held outcome
 
 -- the line of a refusal that names addresses of the base
 abbrev pub IsAddressesLine : Command → Contents → Status → List ℕ → Type 0
 IsAddressesLine (Command.merge words) held status line = line ≡ merge_line (base_of words held) status
 IsAddressesLine (Command.check words) held status line = IsProgramLine words.base held status line
 IsAddressesLine (Command.fmt words) held status line = IsProgramLine words.base held status line
+IsAddressesLine (Command.ids words) held status line = IsProgramLine words.base held status line
+IsAddressesLine (Command.replay words) held status line = IsProgramLine words.base held status line
 
 -- the words spell a command, and over what the store held, where it tells, it comes to what is so
 abbrev pub Comes : Option Command → Store → (Outcome → Type 0) → Type 0
@@ -108,5 +116,4 @@ IsPrefix c old new status = ⊤
 -- the two logs of a merge in the other order come to the same
 abbrev pub IsSameInEitherOrder : Command → Contents → Type 0
 IsSameInEitherOrder (Command.merge words) held = refusal words held ≡ None → IsSameSwapped words held
-IsSameInEitherOrder (Command.check words) held = ⊤
-IsSameInEitherOrder (Command.fmt words) held = ⊤
+IsSameInEitherOrder command held = ⊤

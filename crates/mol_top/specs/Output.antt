@@ -1,17 +1,13 @@
 -- What a command comes to, what is made of it before the first write, and what is left of a store.
-use Rattle.std.specs.Prelude.{◌≡◌, ◌<◌, ◌≤◌, ℕ, ◌+◌, List, [], ◌∷◌, length, map, fold, find, nat_lt, Option, None, Some, option_map, if◌then◌else◌}
+use Rattle.std.specs.Prelude.{◌≡◌, ◌<◌, ℕ, List, [], length, map, fold, Option}
 use Rattle.std.specs.List.{All}
-use Rattle.std.specs.Option.{option_or}
-use Rattle.mol_base.specs.Limits.{most}
 use Rattle.mol_base.specs.declared.file.File.{File}
-use Rattle.mol_base.specs.declared.limit.Which.TheVariants.{FileBytes, SourceBytes, Height}
 use Rattle.mol_outside.specs.Contents.{Contents, written_at}
 use Rattle.mol_base.specs.Files.{file_pairs, FilePair}
 use Rattle.mol_top.specs.Command.{joined}
 use Rattle.mol_top.specs.Report.{refusal_line}
 use Rattle.mol_top.specs.declared.output.Work.{Work}
-use Rattle.mol_top.specs.declared.status.Status.{Status}
-use Rattle.mol_top.specs.declared.status.Status.TheVariants.{Limit, WriteFailed}
+use Rattle.mol_top.specs.declared.status.Status.TheVariants.{WriteFailed}
 
 -- # Outcomes
 
@@ -28,31 +24,6 @@ below out files = map (λ (file : FilePair). (joined out file.0, file.1)) files
 -- what is held after these files are written in turn
 abbrev pub written_all : List FilePair → Option Contents → Option Contents
 written_all files held = fold (λ h (file : FilePair). written_at file.0 file.1 h) held files
-
--- # Limits of what is written
-
--- how many bytes each of these texts has
-abbrev pub sizes : List FilePair → List ℕ
-sizes texts = map (λ (text : FilePair). length text.1) texts
-
--- a text passes the limit of one file: the first
-abbrev pub long_text : List FilePair → Option Status
-long_text texts = option_map (Limit FileBytes) (find (nat_lt (most FileBytes)) (sizes texts))
-
--- so many bytes and those of these texts pass the limit of all sources; the number is that up to and with the first text that passes it
-abbrev pub long_texts : ℕ → List FilePair → Option Status
-long_texts before [] = None
-long_texts before (text ∷ texts) =
-    let sum : ℕ = before + length text.1 in
-    if nat_lt (most SourceBytes) sum then Some (Limit SourceBytes sum) else long_texts sum texts
-
--- a tree passes the limit of height: the first
-abbrev pub tall_tree : List ℕ → Option Status
-tall_tree heights = option_map (Limit Height) (find (nat_lt (most Height)) heights)
-
--- what refuses sources that are to be written, with the heights of their trees as printed
-abbrev pub texts_refusal : List FilePair → List ℕ → Option Status
-texts_refusal texts heights = option_or (long_text texts) (option_or (long_texts 0 texts) (tall_tree heights))
 
 -- # What is made
 

@@ -4,14 +4,18 @@ use Rattle.std.specs.Fmt.{decimal}
 use Rattle.jav_parse_unit.specs.Features.{name as feature_name}
 use Rattle.jav_parse_unit.specs.declared.feature.Feature.{Feature}
 use Rattle.mol_base.specs.declared.file.Place.{Place}
-use Rattle.mol_base.specs.declared.limit.Which.{Which}
-use Rattle.mol_base.specs.declared.limit.Which.TheVariants as limits
+use Rattle.mol_replay.specs.declared.fault.ReplayFault.TheVariants.{NotClean}
+use Rattle.mol_report_logs.specs.Limits.{limit_text}
+use Rattle.mol_report_logs.specs.LogFaults.{log_fault_text}
+use Rattle.mol_report_logs.specs.ReplayFaults.{plain_fault_text}
 use Rattle.mol_program.specs.FaultTexts.{name, feature}
 use Rattle.mol_program.specs.declared.fault.SourceFault.{SourceFault}
 use Rattle.mol_top.specs.declared.refusal.Line.{Line}
 use Rattle.mol_top.specs.declared.refusal.Line.TheVariants.{Fixed, Made}
 use Rattle.mol_top.specs.declared.status.BaseFault.TheVariants.{Source, Unclean}
-use Rattle.mol_renames.specs.declared.log_cause.LogCause.TheVariants.{SharedTag, Replay}
+use Rattle.mol_top.specs.declared.status.LogCause.{LogCause}
+use Rattle.mol_top.specs.declared.status.LogCause.TheVariants.{Form, Replay, Renames}
+use Rattle.mol_renames.specs.declared.log_cause.LogCause.TheVariants as renames
 use Rattle.mol_top.specs.declared.status.Status.{Status}
 use Rattle.mol_top.specs.declared.status.Status.TheVariants.{Done, Conflicts, Usage, BaseRefused, LogRefused, ReadFailed, Missing, WriteFailed, OutOfMemory, OutInUse, Limit, NotBuilt}
 
@@ -44,34 +48,37 @@ base_line text = codes "base " ++ text ++ 10 ∷ []
 abbrev pub source_text : Place → SourceFault → List ℕ
 source_text place fault = place_text place ++ 32 ∷ fault_text fault
 
-abbrev pub limit_text : Which → List ℕ
-limit_text limits.Files = codes "files"
-limit_text limits.FileBytes = codes "file-bytes"
-limit_text limits.SourceBytes = codes "source-bytes"
-limit_text limits.Height = codes "height"
-limit_text limits.Operations = codes "operations"
-limit_text limits.LogBytes = codes "log-bytes"
-limit_text limits.ScriptBytes = codes "script-bytes"
-
 -- the line of a refused log: its number, and why
 abbrev pub log_line : ℕ → List ℕ → List ℕ
 log_line which cause = codes "log " ++ decimal which ++ 32 ∷ cause ++ 10 ∷ []
 
+-- the line of a log that is refused for a cause; of one that names addresses of a base, what stands beside them
+abbrev pub cause_line : ℕ → LogCause → List ℕ
+cause_line which (Form fault) = log_line which (log_fault_text fault)
+cause_line which (Replay fault) = log_line which (plain_fault_text fault)
+cause_line which (Renames (renames.SharedTag tag)) = log_line which (codes "shared-tag " ++ tag)
+cause_line which (Renames (renames.Replay fault)) = []
+
 -- the line of a refusal names addresses of the base: then its command makes it
 abbrev pub names_addresses : Status → Bool
-names_addresses (LogRefused which (Replay fault)) = true
+names_addresses (LogRefused which (Replay (NotClean fault))) = true
+names_addresses (LogRefused which (Renames (renames.Replay fault))) = true
 names_addresses (BaseRefused (Unclean fault)) = true
 names_addresses status = false
+
+-- a line for each command
+abbrev pub usage : List ℕ
+usage =
+    codes "usage: molref check BASE\nusage: molref fmt BASE OUT\nusage: molref ids BASE\nusage: molref replay BASE LOG OUT\nusage: molref merge BASE LOG1 LOG2 OUT\n"
 
 -- the line of any other refusal
 abbrev pub refusal_line : Status → List ℕ
 refusal_line Done = []
 refusal_line (Conflicts count) = []
-refusal_line Usage = codes "usage: molref check BASE\nusage: molref fmt BASE OUT\nusage: molref merge BASE LOG1 LOG2 OUT\n"
+refusal_line Usage = usage
 refusal_line (BaseRefused (Source place fault)) = base_line (source_text place fault)
 refusal_line (BaseRefused (Unclean fault)) = []
-refusal_line (LogRefused which (SharedTag tag)) = log_line which (codes "shared-tag " ++ tag)
-refusal_line (LogRefused which (Replay fault)) = []
+refusal_line (LogRefused which cause) = cause_line which cause
 refusal_line (ReadFailed path) = codes "read-failed " ++ path ++ 10 ∷ []
 refusal_line (Missing path) = codes "missing " ++ path ++ 10 ∷ []
 refusal_line (WriteFailed path) = codes "write-failed " ++ path ++ 10 ∷ []

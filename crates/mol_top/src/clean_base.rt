@@ -4,6 +4,7 @@ ghost use Rattle.mol_faults_rules.specs.Kept.{kept_fault};
 ghost use Rattle.mol_faults.specs.First.{IsFirst};
 ghost use Rattle.mol_base.specs.Files.{ArePathsApart, AreSmall, file_pairs};
 ghost use Rattle.mol_report.specs.FaultText.{fault_text};
+ghost use Rattle.mol_spell_files.specs.Bundle.{digest_of};
 ghost use Rattle.mol_spell_rules.specs.Clean.{Clean};
 ghost use Rattle.mol_table_rules.specs.Rules.{IsProgram as KeepsRules};
 ghost use Rattle.mol_table_rules.specs.Tidy.{tidy};
@@ -21,6 +22,7 @@ use mol_faults_rules::Fault;
 use mol_outside::Files;
 use mol_program::read_program;
 use mol_report::fault_line;
+use mol_spell_files::{digest_of_files, program_files};
 use mol_spell_names::ProgramIndex;
 use mol_table::Table;
 use std::alloc::Global;
@@ -124,4 +126,41 @@ fn unclean_line(alloc: Global, table: &Table, fault: &Fault) -> Result<Vec<u8>, 
     line.extend_from_slice(fault_line(alloc, table, fault)?.items())?;
     line.push(b'\n')?;
     Ok(line)
+}
+
+/// The digest of a program, by which a log names its base. Refuses a program that is not clean, for its first fault. The indexes of the
+/// program are made once, for its faults and for its files.
+pub fn clean_digest(alloc: Global, table: &Table) -> Result<[u8; 32], Refusal>
+    requires { tidy table.now ≡ table.now }
+    ensures clean { OnOk result (Clean table.now) }
+    ensures digest { IfOk result (λ digest. digest ≡ digest_of table.now) }
+    ensures stop { IfErr result (IsRefusalOfProgram table.now) }
+{
+    match ProgramIndex::new(alloc, table) {
+        Ok(program) => index_digest(alloc, &program),
+        Err(OutOfMemory) => Err(Refusal::out_of_memory()),
+    }
+}
+
+/// The same by the indexes of the program.
+fn index_digest(alloc: Global, program: &ProgramIndex<'_>) -> Result<[u8; 32], Refusal>
+    requires { tidy program.now ≡ program.now }
+    ensures clean { OnOk result (Clean program.now) }
+    ensures digest { IfOk result (λ digest. digest ≡ digest_of program.now) }
+    ensures stop { IfErr result (IsRefusalOfProgram program.now) }
+{
+    refuse_unclean(alloc, program)?;
+    match files_digest(alloc, program) {
+        Ok(digest) => Ok(digest),
+        Err(OutOfMemory) => Err(Refusal::out_of_memory()),
+    }
+}
+
+/// The digest of the files of a program.
+fn files_digest(alloc: Global, program: &ProgramIndex<'_>) -> Result<[u8; 32], OutOfMemory>
+    requires { tidy program.now ≡ program.now }
+    ensures { IfOk result (λ digest. digest ≡ digest_of program.now) }
+{
+    let files = program_files(alloc, program)?;
+    digest_of_files(alloc, files.texts.as_slice())
 }

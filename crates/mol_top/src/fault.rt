@@ -1,15 +1,9 @@
 //! Why the calls below a run fail, and what is answered to each fault.
 use crate::status::{BaseFault, Status};
-use mol_base::{OutOfMemory, Text, Which};
+use mol_base::{OutOfMemory, Text};
 use mol_program::ReadFault;
+use mol_spell_files::LimitFault;
 use std::alloc::AllocFailed;
-
-/// A number that passes its limit.
-#[derive(Clone, Copy, Debug, PartialEq, Eq)]
-pub struct LimitFault {
-    pub which: Which,
-    pub number: u64,
-}
 
 /// Why a step does not get what it asks of the store.
 #[derive(Debug, Drop)]

@@ -1,35 +1,29 @@
 //! What `fmt` writes: the program of a base as source files in the one layout.
-ghost use Rattle.std.specs.Prelude.{◌≡◌, IfErr, IfOk, map};
-ghost use Rattle.mol_base.specs.Files.{file_pair, file_pairs};
-ghost use Rattle.mol_spell_rules.specs.PrintedFiles.{printed_text};
-ghost use Rattle.mol_spell.specs.keys.Keys.{key_of};
-ghost use Rattle.mol_spell.specs.Spelt.{spelled_of, unit_at};
+ghost use Rattle.std.specs.Prelude.{◌≡◌, IfErr, IfOk};
+ghost use Rattle.mol_base.specs.Files.{file_pairs};
 ghost use Rattle.mol_table_rules.specs.Tidy.{tidy};
 ghost use Rattle.mol_top.specs.Answers.{store_status};
 ghost use Rattle.mol_top.specs.Carried.{Carries, CarriesOwn, IsInside, NoPath, WritesInside, WritesOwn};
 ghost use Rattle.mol_top.specs.Command.{fmt_paths};
 ghost use Rattle.mol_top.specs.Formatting.{IsTextWork, MakesFiles, output_refusal};
-ghost use Rattle.mol_top.specs.Formatting.{printed_height, program_heights, program_texts, written_text};
 ghost use Rattle.mol_top.specs.Output.{IsReady};
 ghost use Rattle.mol_top.specs.Outside.{IfTold, OnlyReads, store};
 ghost use Rattle.mol_top.specs.Prepared.{IsStopped, Prepares};
-ghost use Rattle.mol_top.specs.ProgramWork.{IsCleanWork, IsProgramStopped};
+ghost use Rattle.mol_top.specs.ProgramWork.{IsCleanWork, IsFilesWork, IsProgramStopped, StopsLarge};
 ghost use Rattle.mol_top.specs.Steps.{Only, Stops};
 ghost use Rattle.mol_top.specs.Words.{fmt_command, fmt_words};
 
 use crate::clean_base::{read_base_program, refuse_unclean, rules};
 use crate::command::FmtWords;
 use crate::fault::StoreFault;
-use crate::output::{Work, below, failure_lines, refuse_large};
+use crate::output::{Work, below, failure_lines};
 use crate::refusal::Refusal;
 use crate::report::fmt_report;
 use crate::status::Status;
-use crate::store::{check_out, fitted};
-use jav_print::print;
-use jav_print_height::printed_height;
+use crate::store::check_out;
 use mol_base::{File, OutOfMemory, Text};
 use mol_outside::Files;
-use mol_spell::{SpeltUnit, UnitKey, file_keys, file_of};
+use mol_spell_files::{ProgramFiles, program_files, refuse_large};
 use mol_spell_names::ProgramIndex;
 use mol_table::Table;
 use std::alloc::Global;
@@ -113,73 +107,21 @@ fn formatted<F: Files>(
     ensures carries { IfErr result (λ fault. Carries (Only out.now) NoPath (IsInside out.now) (store_status fault)) }
 {
     check_out(alloc, out, files)?;
+    files_work(alloc, out, program)
+}
+
+/// All that is written and printed of a program below a folder, unless its files pass a limit.
+pub fn files_work(alloc: Global, out: &Text, program: &ProgramIndex<'_>) -> Result<Work, StoreFault>
+    requires { tidy program.now ≡ program.now }
+    ensures ready { IfOk result IsReady }
+    ensures work { IfOk result (IsFilesWork out.now program.now) }
+    ensures inside { IfOk result (WritesInside out.now) }
+    ensures stop { IfErr result (StopsLarge program.now) }
+    ensures carries { IfErr result (λ fault. Carries NoPath NoPath NoPath (store_status fault)) }
+{
     let ProgramFiles { texts, heights } = program_files(alloc, program)?;
     refuse_large(texts.as_slice(), heights.as_slice())?;
     Ok(text_work(alloc, out, texts)?)
-}
-
-/// Files in the one layout, and of each in turn the height of its tree as printed.
-#[derive(Drop)]
-struct ProgramFiles {
-    texts: Vec<File>,
-    heights: Vec<u32>,
-}
-
-/// The files of a program.
-fn program_files(alloc: Global, program: &ProgramIndex<'_>) -> Result<ProgramFiles, OutOfMemory>
-    requires { tidy program.now ≡ program.now }
-    ensures texts { IfOk result (λ made. file_pairs made.texts.items ≡ program_texts program.now) }
-    ensures heights { IfOk result (λ made. made.heights.items ≡ program_heights program.now) }
-{
-    let keys = file_keys(alloc, program)?;
-    files_of(alloc, program, keys)
-}
-
-/// The files of these keys in the one layout. Each is spelled and printed, and its tree let go of, before the next, so that memory never holds
-/// more than one tree beside the program and the texts.
-fn files_of(
-    alloc: Global,
-    program: &ProgramIndex<'_>,
-    keys: Vec<UnitKey>,
-) -> Result<ProgramFiles, OutOfMemory>
-    ensures texts { IfOk result (λ made. file_pairs made.texts.items
-        ≡ map written_text (map printed_text (map (unit_at program.now) (map key_of keys.items)))) }
-    ensures heights { IfOk result (λ made. made.heights.items
-        ≡ map printed_height (map (unit_at program.now) (map key_of keys.items))) }
-{
-    let mut texts: Vec<File> = Vec::new(alloc);
-    let mut heights: Vec<u32> = Vec::new(alloc);
-    for key in keys {
-        let spelt = file_of(alloc, program, key)?;
-        let PrintedFile { file, height } = printed_file(alloc, spelt)?;
-        texts.push(file)?;
-        heights.push(height)?;
-    }
-    Ok(ProgramFiles { texts, heights })
-}
-
-/// A file in the one layout, and the height of its tree as printed.
-#[derive(Drop)]
-struct PrintedFile {
-    file: File,
-    height: u32,
-}
-
-/// This file in the one layout.
-fn printed_file(alloc: Global, spelt: SpeltUnit) -> Result<PrintedFile, OutOfMemory>
-    ensures text { IfOk result (λ printed. file_pair printed.file ≡ written_text (printed_text (spelled_of spelt))) }
-    ensures height { IfOk result (λ printed. printed.height ≡ printed_height (spelled_of spelt)) }
-{
-    let SpeltUnit {
-        class: _,
-        path,
-        unit,
-    } = spelt;
-    let bytes = fitted(print(alloc, &unit)?);
-    Ok(PrintedFile {
-        file: File { path, bytes },
-        height: printed_height(&unit),
-    })
 }
 
 /// What is written and printed of these texts, below a folder.

@@ -2,19 +2,15 @@
 ghost use Rattle.std.specs.Prelude.{List as Items, ◌≡◌, ◌≤◌, ◌<◌, ℕ, length, map, take, slice_get, None, Some, IfOk, IfErr, OnOk, OnErr};
 ghost use Rattle.mol_outside.specs.Contents.{HasRisen, appended};
 ghost use Rattle.mol_base.specs.Files.{file_pairs};
-ghost use Rattle.mol_top.specs.Answers.{limit_status};
-ghost use Rattle.mol_top.specs.Carried.{IsAbove};
 ghost use Rattle.mol_top.specs.Output.{IsReady, below as below_of, failure_of, written_all};
-ghost use Rattle.mol_top.specs.Output.{long_text, long_texts, tall_tree, texts_refusal};
 ghost use Rattle.mol_top.specs.Outside.{sink, state, store};
 ghost use Rattle.mol_top.specs.Report.{line_bytes, refusal_line as line_for};
 ghost use Rattle.mol_top.specs.Steps.{AnsweredAs, HasPart, IsCarriedOut, IsFinal, IsLeft, IsPutOrCut, IsRefusal, IsWriteFailed, StopsAt};
 
 use crate::Status;
-use crate::fault::LimitFault;
 use crate::refusal::Refusal;
 use crate::store::join;
-use mol_base::{File, List, OutOfMemory, Text, Which};
+use mol_base::{File, List, OutOfMemory, Text};
 use mol_outside::{Files, Sink};
 use std::alloc::Global;
 
@@ -137,71 +133,4 @@ pub fn below(alloc: Global, out: &Text, files: Vec<File>) -> Result<Vec<File>, O
         list.push(File { path, bytes })?;
     }
     Ok(list)
-}
-
-/// Refuses sources that pass a limit, with the heights of their trees as printed: first the bytes of each, then those of
-/// all together, then the heights.
-pub fn refuse_large(texts: &[File], heights: &[u32]) -> Result<(), LimitFault>
-    ensures allowed { OnOk result (texts_refusal (file_pairs texts.now) heights.now ≡ None) }
-    ensures refused { IfErr result (λ fault. texts_refusal (file_pairs texts.now) heights.now ≡ Some (limit_status fault)) }
-    ensures above { IfErr result IsAbove }
-{
-    refuse_long_text(texts)?;
-    refuse_long_texts(texts)?;
-    refuse_tall_tree(heights)
-}
-
-/// Refuses the first text that passes the limit of one file.
-fn refuse_long_text(texts: &[File]) -> Result<(), LimitFault>
-    ensures allowed { OnOk result (long_text (file_pairs texts.now) ≡ None) }
-    ensures refused { IfErr result (λ fault. long_text (file_pairs texts.now) ≡ Some (limit_status fault)) }
-    ensures above { IfErr result IsAbove }
-{
-    for text in texts {
-        let number = text.bytes.items().len() as u64;
-        if number > Which::FileBytes.most() {
-            return Err(LimitFault {
-                which: Which::FileBytes,
-                number,
-            });
-        }
-    }
-    Ok(())
-}
-
-/// Refuses texts that pass the limit of all files together.
-fn refuse_long_texts(texts: &[File]) -> Result<(), LimitFault>
-    ensures allowed { OnOk result (long_texts 0 (file_pairs texts.now) ≡ None) }
-    ensures refused { IfErr result (λ fault. long_texts 0 (file_pairs texts.now) ≡ Some (limit_status fault)) }
-    ensures above { IfErr result IsAbove }
-{
-    let mut total: u64 = 0;
-    for text in texts {
-        total += text.bytes.items().len() as u64;
-        if total > Which::SourceBytes.most() {
-            return Err(LimitFault {
-                which: Which::SourceBytes,
-                number: total,
-            });
-        }
-    }
-    Ok(())
-}
-
-/// Refuses the first height that passes the limit of a tree.
-fn refuse_tall_tree(heights: &[u32]) -> Result<(), LimitFault>
-    ensures allowed { OnOk result (tall_tree heights.now ≡ None) }
-    ensures refused { IfErr result (λ fault. tall_tree heights.now ≡ Some (limit_status fault)) }
-    ensures above { IfErr result IsAbove }
-{
-    for height in heights {
-        let number = u64::from(*height);
-        if number > Which::Height.most() {
-            return Err(LimitFault {
-                which: Which::Height,
-                number,
-            });
-        }
-    }
-    Ok(())
 }

@@ -2,17 +2,25 @@
 ghost use Rattle.std.specs.Prelude.{◌≡◌, ◌++◌, ◌∷◌, [], codes, IfOk, OnOk};
 ghost use Rattle.std.specs.Fmt.{decimal};
 ghost use Rattle.mol_top.specs.Report.{base_line as base_line_of, check_report as check_report_of, fmt_report as fmt_report_of};
-ghost use Rattle.mol_top.specs.Report.{fault_text, limit_text, log_line as log_line_of, refusal_line as refusal_line_of, source_text};
+ghost use Rattle.mol_report_logs.specs.Limits.{limit_text};
+ghost use Rattle.mol_report_logs.specs.LogFaults.{log_fault_text};
+ghost use Rattle.mol_report_logs.specs.ReplayFaults.{plain_fault_text};
+ghost use Rattle.mol_top.specs.Report.{cause_line as cause_line_of, fault_text, log_line as log_line_of, refusal_line as refusal_line_of};
+ghost use Rattle.mol_top.specs.Report.{source_text};
 
-use crate::status::{BaseFault, Status};
+use crate::status::{BaseFault, LogCause, Status};
 use mol_base::{OutOfMemory, Place, Tag, Text, Which};
+use mol_log_rows::LogFault;
 use mol_program::SourceFault;
-use mol_renames::{LogCause, push_number};
+use mol_renames::LogCause as RenamesCause;
+use mol_replay::ReplayFault;
+use mol_report_logs::{limit_word, log_fault_line, plain_fault_line};
+use mol_spell_files::push_number;
 use std::alloc::Global;
 
 /// A line for each command.
 pub const USAGE: &[u8] =
-    b"usage: molref check BASE\nusage: molref fmt BASE OUT\nusage: molref merge BASE LOG1 LOG2 OUT\n";
+    b"usage: molref check BASE\nusage: molref fmt BASE OUT\nusage: molref ids BASE\nusage: molref replay BASE LOG OUT\nusage: molref merge BASE LOG1 LOG2 OUT\n";
 
 /// The report of so many files that are a program.
 pub fn check_report(alloc: Global, files: usize) -> Result<Vec<u8>, OutOfMemory>
@@ -34,8 +42,8 @@ pub fn fmt_report(alloc: Global, files: usize) -> Result<Vec<u8>, OutOfMemory>
     Ok(report)
 }
 
-/// The line of a refusal that names no address of a base; no byte where nothing is refused, or where it names one and is made where
-/// the base is at hand.
+/// The line of a refusal that names no address of a base; no byte where nothing is refused. Of a refusal that names one the line is made
+/// where the base is at hand.
 pub fn refusal_line(alloc: Global, status: &Status) -> Result<Vec<u8>, OutOfMemory>
     ensures { IfOk result (λ line. line.items ≡ refusal_line_of status.now) }
 {
@@ -44,8 +52,7 @@ pub fn refusal_line(alloc: Global, status: &Status) -> Result<Vec<u8>, OutOfMemo
         Status::Usage => Ok(Vec::from_slice(alloc, USAGE)?),
         Status::BaseRefused(BaseFault::Source(place, fault)) => base_line(alloc, place, fault),
         Status::BaseRefused(BaseFault::Unclean(_)) => Ok(Vec::new(alloc)),
-        Status::LogRefused(which, LogCause::SharedTag(tag)) => shared_tag_line(alloc, *which, tag),
-        Status::LogRefused(_, LogCause::Replay(_)) => Ok(Vec::new(alloc)),
+        Status::LogRefused(which, cause) => cause_line(alloc, *which, cause),
         Status::ReadFailed(path) => path_line(alloc, b"read-failed ", path),
         Status::Missing(path) => path_line(alloc, b"missing ", path),
         Status::WriteFailed(path) => path_line(alloc, b"write-failed ", path),
@@ -106,6 +113,34 @@ fn push_fault_name(out: &mut Vec<u8>, fault: &SourceFault) -> Result<(), OutOfMe
     Ok(())
 }
 
+/// The line of a refused log; where it names addresses of a base it is not whole, and is made where the base is at hand.
+fn cause_line(alloc: Global, which: u8, cause: &LogCause) -> Result<Vec<u8>, OutOfMemory>
+    ensures { IfOk result (λ line. line.items ≡ cause_line_of which cause.now) }
+{
+    match cause {
+        LogCause::Form(fault) => form_line(alloc, which, fault),
+        LogCause::Replay(fault) => plain_line(alloc, which, fault),
+        LogCause::Renames(RenamesCause::SharedTag(tag)) => shared_tag_line(alloc, which, tag),
+        LogCause::Renames(RenamesCause::Replay(_)) => Ok(Vec::new(alloc)),
+    }
+}
+
+/// The line of bytes that are no log.
+fn form_line(alloc: Global, which: u8, fault: &LogFault) -> Result<Vec<u8>, OutOfMemory>
+    ensures { IfOk result (λ line. line.items ≡ log_line_of which (log_fault_text fault.now)) }
+{
+    let cause = log_fault_line(alloc, fault)?;
+    log_line(alloc, which, cause.items())
+}
+
+/// The line of a log that does not replay, whole where it names no address of a base.
+fn plain_line(alloc: Global, which: u8, fault: &ReplayFault) -> Result<Vec<u8>, OutOfMemory>
+    ensures { IfOk result (λ line. line.items ≡ log_line_of which (plain_fault_text fault.now)) }
+{
+    let cause = plain_fault_line(alloc, fault)?;
+    log_line(alloc, which, cause.items())
+}
+
 /// The line of a log that has the tag of the log before it.
 fn shared_tag_line(alloc: Global, which: u8, tag: &Tag) -> Result<Vec<u8>, OutOfMemory>
     ensures { IfOk result (λ line. line.items ≡ log_line_of which (codes "shared-tag " ++ tag.now)) }
@@ -132,24 +167,9 @@ fn limit_line(alloc: Global, which: &Which, count: u64) -> Result<Vec<u8>, OutOf
     ensures { IfOk result (λ line. line.items ≡ codes "limit " ++ limit_text which.now ++ 32 ∷ decimal count ++ 10 ∷ []) }
 {
     let mut line = Vec::from_slice(alloc, b"limit ")?;
-    line.extend_from_slice(limit_word(which))?;
+    line.extend_from_slice(limit_word(which).as_bytes())?;
     line.push(b' ')?;
     push_number(alloc, &mut line, count)?;
     line.push(b'\n')?;
     Ok(line)
-}
-
-/// The word of a limit.
-fn limit_word(which: &Which) -> &'static [u8]
-    ensures { result.now ≡ limit_text which.now }
-{
-    match which {
-        Which::Files => b"files",
-        Which::FileBytes => b"file-bytes",
-        Which::SourceBytes => b"source-bytes",
-        Which::Height => b"height",
-        Which::Operations => b"operations",
-        Which::LogBytes => b"log-bytes",
-        Which::ScriptBytes => b"script-bytes",
-    }
 }

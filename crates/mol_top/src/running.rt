@@ -15,9 +15,11 @@ use crate::Status;
 use crate::checking::prepare_check;
 use crate::command::{Command, parse};
 use crate::formatting::prepare_fmt;
+use crate::listing::prepare_ids;
 use crate::output::{Work, carry_out, refuse};
 use crate::refusal::Refusal;
 use crate::renames::prepare_merge;
+use crate::replaying::prepare_replay;
 use mol_base::{List, Text};
 use mol_outside::{Files, Sink};
 use std::alloc::Global;
@@ -26,8 +28,10 @@ use std::alloc::Global;
 ///
 /// `words` are the words after the program's name. `check BASE` tells whether the sources below BASE are a clean program: each name in
 /// them has a meaning, and keeps it in the files that the program is spelled as. `fmt BASE OUT` writes these files, in the one layout,
-/// below OUT. `merge BASE LOG1 LOG2 OUT` merges two logs over the files below BASE: it writes the merged files below OUT and then the
-/// merged log as `OUT/merged.mol`, or prints how the logs conflict. Everything that is written is made before the first write.
+/// below OUT. `ids BASE` prints the digest of that program, by which a log names its base, and its identities. `replay BASE LOG OUT` writes
+/// the files of the program that the log leaves of it, below OUT. `merge BASE LOG1 LOG2 OUT` merges two logs over the files below BASE: it
+/// writes the merged files below OUT and then the merged log as `OUT/merged.mol`, or prints how the logs conflict. Everything that is
+/// written is made before the first write.
 ///
 /// Each status comes where its condition holds, and none beside `OutOfMemory` where its condition does not:
 ///
@@ -38,13 +42,15 @@ use std::alloc::Global;
 /// | `Usage` | the words are no row of the usage text; an empty word is no path |
 /// | `BaseRefused(Source(..))` | the files below BASE are no program: the first file that is no source, else the first fault of names |
 /// | `BaseRefused(Unclean(..))` | they are a program that is not clean: its first fault |
-/// | `LogRefused` | the two logs have one first tag, or a log does not replay on the base: the first log, else the second |
+/// | `LogRefused(1, Form(..))` | LOG is not of the form of a log: the first thing that is wrong with it |
+/// | `LogRefused(1, Replay(..))` | LOG was recorded over another base, an entry of it does not apply, or what it leaves is not clean |
+/// | `LogRefused(_, Renames(..))` | the two logs of a merge have one first tag, or a log does not replay: the first log, else the second |
 /// | `ReadFailed` | a listing or a read of this path of the command failed |
 /// | `Missing` | no file below BASE ends in `.java`, or an input file is not there |
 /// | `WriteFailed` | the write of this file below OUT failed, or for the empty path the put of what is printed |
 /// | `OutOfMemory` | memory ran out, of which nothing is said |
 /// | `OutInUse` | a file lies below OUT: the least by its path |
-/// | `Limit` | a number passes its limit: of files, of bytes of a file or of all, or of the height of a tree |
+/// | `Limit` | a number passes its limit: of files, of bytes of a file or of all, of the height of a tree, or of LOG its bytes or entries |
 /// | `NotBuilt` | a file of the base of a merge, or a log, is not of the form that is built so far |
 ///
 /// Of several refusals the first in the order of the command comes: the words, the base, the logs, OUT, what the logs leave, what is written.
@@ -73,7 +79,7 @@ pub fn run<F: Files, S: Sink>(
     // A write that fails leaves a prefix.
     ensures prefix { IsPrefix (command words.now) (state F.Files S.Sink files.old out.old) (state F.Files S.Sink files.new out.new) result }
 
-    // What `fmt` writes reads back as the trees of the program, and is in the one layout itself.
+    // What `fmt` and `replay` write reads back as the trees of the program, and is in the one layout itself.
     ensures read_back { ForSome (command words.now) (λ c. (held : Contents) → FilesReadBack c held) }
 
     // The other order of the logs of a merge comes to the same.
@@ -101,5 +107,7 @@ fn prepare<F: Files>(alloc: Global, command: Command<'_>, files: &mut F) -> Resu
         Command::Merge(words) => prepare_merge(alloc, words, files),
         Command::Check(words) => prepare_check(alloc, words, files),
         Command::Fmt(words) => prepare_fmt(alloc, words, files),
+        Command::Ids(words) => prepare_ids(alloc, words, files),
+        Command::Replay(words) => prepare_replay(alloc, words, files),
     }
 }

@@ -1,8 +1,10 @@
 //! The answers of a run.
 use mol_base::{OutOfMemory, Place, Text, Which};
 use mol_faults_rules::Fault;
+use mol_log_rows::LogFault;
 use mol_program::SourceFault;
-use mol_renames::LogCause;
+use mol_renames::LogCause as RenamesCause;
+use mol_replay::ReplayFault;
 
 /// Why a base is refused.
 #[derive(Drop)]
@@ -11,6 +13,17 @@ pub enum BaseFault {
     Source(Place, SourceFault),
     /// They are a program, which is not clean: its first fault.
     Unclean(Fault),
+}
+
+/// Why a log is refused.
+#[derive(Drop)]
+pub enum LogCause {
+    /// The bytes are no log: the first thing that is wrong with them. It is never `OutOfMemory` or `TooLong`.
+    Form(LogFault),
+    /// The log does not replay on the base. It is never `OutOfMemory`.
+    Replay(ReplayFault),
+    /// The log of a merge of renames has the tag of the other one, or does not replay.
+    Renames(RenamesCause),
 }
 
 /// What a run answers. `code` is the exit status of the program.

@@ -8,16 +8,18 @@ ghost use Rattle.mol_base.specs.Limits.{most};
 ghost use Rattle.mol_outside.specs.Contents.{paths_below};
 ghost use Rattle.mol_base.specs.Files.{ArePathsApart, AreSmall, file_pairs, file_paths};
 ghost use Rattle.mol_top.specs.Answers.{limit_status, store_status};
-ghost use Rattle.mol_top.specs.Carried.{Carries, CarriesRead, IsAbove, IsInside, IsSourcePath, NoPath};
+ghost use Rattle.mol_spell_files.specs.FileLimits.{IsAbove};
+ghost use Rattle.mol_top.specs.Carried.{Carries, CarriesRead, IsInside, IsSourcePath, NoPath};
 ghost use Rattle.mol_top.specs.Command.{joined};
 ghost use Rattle.mol_top.specs.Files.{is_java};
 ghost use Rattle.mol_top.specs.Outside.{IfTold, OnlyReads, store};
 ghost use Rattle.mol_top.specs.Refusals.{AreBaseFiles, AreFilesAt, absent_input, out_refusal, size_refusal};
 ghost use Rattle.mol_top.specs.Steps.{IsAmong, Only, Stops, StopsBase, StopsFiles};
 
-use crate::fault::{LimitFault, StoreFault};
+use crate::fault::StoreFault;
 use mol_base::{File, List, OutOfMemory, Text, Which};
 use mol_outside::{FileFail, Files};
+use mol_spell_files::{LimitFault, fitted};
 use std::alloc::Global;
 
 /// A path below a folder: both joined by `/`.
@@ -28,15 +30,6 @@ pub fn join(alloc: Global, folder: &Text, path: &Text) -> Result<Text, OutOfMemo
     full.push('/')?;
     full.push_str(path.as_str())?;
     Ok(Text::from_string(full))
-}
-
-/// The same bytes without room to grow, since all files of a command stand in memory together.
-pub fn fitted(bytes: List<u8>) -> List<u8>
-    ensures { result ≡ bytes }
-{
-    let mut bytes = bytes.into_vec();
-    bytes.shrink_to_fit();
-    List::from_vec(bytes)
 }
 
 /// The bytes of an input file.

@@ -22,7 +22,8 @@ use Rattle.mol_log_expr.proofs.WrittenExpressions.{written}
 use Rattle.mol_log_expr.specs.ExpressionWords.{expr_words}
 use Rattle.mol_log_body.proofs.WrittenBodies.{written_block}
 use Rattle.mol_log_body.specs.BodyWords.{body_words}
-use Rattle.mol_log.specs.entries.RowsOf.{param_row, param_rows, row_of}
+use Rattle.mol_log_objects.specs.ParamRows.{param_row, param_rows}
+use Rattle.mol_log.specs.entries.RowsOf.{row_of}
 use Rattle.mol_log.specs.entries.Spelling.{SpellsMaybe, SpellsParam, SpellParams, Spells, add_class, add_field, add_method, add_override}
 use Rattle.mol_log.specs.entries.Spelling.{add_constructor, delete, set_body, set_value, rename_class, rename_method, move_class}
 use Rattle.mol_log.specs.entries.Spelling.{move_method, change_signature}

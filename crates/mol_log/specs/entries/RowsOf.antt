@@ -1,20 +1,13 @@
 -- The row that is written for an operation.
-use Rattle.std.specs.Prelude.{List, map, option_map}
-use Rattle.mol_values_types.specs.declared.param.Param.{Param}
+use Rattle.std.specs.Prelude.{option_map}
 use Rattle.mol_op.specs.declared.op.Op.{Op}
 use Rattle.mol_op.specs.declared.op.Op.TheVariants as ops
 use Rattle.mol_log_words.specs.TypeWords.{type_words}
 use Rattle.mol_log_expr.specs.ExpressionWords.{expr_words}
 use Rattle.mol_log_body.specs.BodyWords.{body_words}
-use Rattle.mol_log_rows.specs.declared.rows.row.ParamRow.{ParamRow}
 use Rattle.mol_log_rows.specs.declared.rows.row.Row.{Row}
 use Rattle.mol_log_rows.specs.declared.rows.row.Row.TheVariants as rows
-
-abbrev pub param_row : Param → ParamRow
-param_row param = record { id = param.id; name = param.name; ty = type_words param.ty; filler = param.filler }
-
-abbrev pub param_rows : List Param → List ParamRow
-param_rows params = map param_row params
+use Rattle.mol_log_objects.specs.ParamRows.{param_rows}
 
 abbrev pub row_of : Op → Row
 row_of (ops.AddClass op) =

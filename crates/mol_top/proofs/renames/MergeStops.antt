@@ -27,6 +27,7 @@ use Rattle.mol_renames.specs.declared.merge.MergeFault.{MergeFault}
 use Rattle.mol_renames.specs.declared.merge.MergeFault.TheVariants as logs
 use Rattle.mol_renames.specs.declared.log_cause.LogCause.TheVariants.{SharedTag, Replay}
 use Rattle.mol_renames.specs.declared.log_cause.ReplayFault.TheVariants.{NotClean}
+use Rattle.mol_top.specs.declared.status.LogCause.TheVariants.{Renames}
 use Rattle.mol_top.specs.declared.status.Status.{Status}
 use Rattle.mol_top.specs.declared.status.Status.TheVariants.{LogRefused, Missing, NotBuilt, OutInUse, OutOfMemory as no_memory}
 use Rattle.mol_top.proofs.Stopping.{either_stops, plain_line, said_plain, store_plain}
@@ -83,8 +84,8 @@ merging_cause w old new inputs (logs.Log k f) has by = λ h e. merge_refuses w h
 
 -- the line of a merge that names no address is the same over any base
 any_base : (base : Program) (s : Status) → names_addresses s ≡ false → merge_line base s ≡ refusal_line s
-any_base base (LogRefused k (Replay (NotClean f))) plain = absurd cc
-any_base base (LogRefused k (SharedTag t)) plain = refl
+any_base base (LogRefused k (Renames (Replay (NotClean f)))) plain = absurd cc
+any_base base (LogRefused k (Renames (SharedTag t))) plain = refl
 any_base base s plain = refl
 
 by_names : (b : Bool) (w : MergeWords) (store : Store) (inputs : Inputs) (refusal : Refusal) → names_addresses refusal.status ≡ b → IfTold store.held (λ h. HasInputs w h inputs)

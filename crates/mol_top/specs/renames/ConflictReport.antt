@@ -21,6 +21,7 @@ use Rattle.mol_renames.specs.declared.fault.Fault.{Fault}
 use Rattle.mol_renames.specs.declared.fault.Fault.TheVariants.{SameAddress}
 use Rattle.mol_renames.specs.declared.log_cause.LogCause.TheVariants.{Replay}
 use Rattle.mol_renames.specs.declared.log_cause.ReplayFault.TheVariants.{NotClean}
+use Rattle.mol_top.specs.declared.status.LogCause.TheVariants.{Renames}
 use Rattle.mol_top.specs.declared.status.Status.{Status}
 use Rattle.mol_top.specs.declared.status.Status.TheVariants.{LogRefused}
 
@@ -67,7 +68,7 @@ replay_line base which fault = log_line which (codes "not-clean " ++ fault_text 
 
 -- the line of a refusal of a merge over a base
 abbrev pub merge_line : Program → Status → List ℕ
-merge_line base (LogRefused which (Replay (NotClean fault))) = replay_line base which fault
+merge_line base (LogRefused which (Renames (Replay (NotClean fault)))) = replay_line base which fault
 merge_line base status = refusal_line status
 
 -- ` by` and the stamps, a space before each

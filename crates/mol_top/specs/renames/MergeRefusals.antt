@@ -13,6 +13,7 @@ use Rattle.mol_top.specs.Command.{MergeWords}
 use Rattle.mol_top.specs.Files.{base_files}
 use Rattle.mol_top.specs.Refusals.{reading_refusal, absent_input, out_refusal}
 use Rattle.mol_top.specs.renames.Inputs.{base_of, log_at}
+use Rattle.mol_top.specs.declared.status.LogCause.TheVariants.{Renames}
 use Rattle.mol_top.specs.declared.status.Status.{Status}
 use Rattle.mol_top.specs.declared.status.Status.TheVariants.{LogRefused, NotBuilt, OutOfMemory as no_memory}
 
@@ -29,7 +30,7 @@ log_refusal c held path = option_or (absent_input path held) (if is_some (log_at
 
 -- what a run answers to logs that are not merged
 abbrev pub merge_status : MergeFault → Status
-merge_status (Log which cause) = LogRefused which cause
+merge_status (Log which cause) = LogRefused which (Renames cause)
 merge_status OutOfMemory = no_memory
 
 -- what refuses the merge of two logs that may be there

@@ -12,17 +12,18 @@ ghost use Rattle.mol_top.specs.Words.{merge_command, merge_words};
 ghost use Rattle.mol_top.specs.renames.MergeOutcome.{outcome};
 ghost use Rattle.mol_top.specs.renames.Working.{IsMergedWork, IsConflictingWork, IsRefusalOf};
 
-use crate::Status;
 use crate::command::MergeWords;
 use crate::output::{Work, below, failure_lines};
 use crate::refusal::{Line, Refusal};
 use crate::renames::base::{Inputs, read_inputs};
 use crate::renames::report::{conflicts_report, merge_report, replay_line};
+use crate::status::{LogCause, Status};
 use crate::store::join;
 use mol_base::{File, OutOfMemory, Text};
 use mol_outside::Files;
 use mol_renames::{
-    Conflict, Fault, Log, LogCause, Merge, MergeFault, ReplayFault, merge_logs, write_log,
+    Conflict, Fault, Log, LogCause as RenamesCause, Merge, MergeFault, ReplayFault, merge_logs,
+    write_log,
 };
 use mol_table::Table;
 use std::alloc::Global;
@@ -63,21 +64,26 @@ fn refusal_of(alloc: Global, base: &Table, fault: MergeFault) -> Refusal
     ensures { IsRefusalOf base.now fault result }
 {
     match fault {
-        MergeFault::Log(which, LogCause::Replay(ReplayFault::NotClean(fault))) => {
+        MergeFault::Log(which, RenamesCause::Replay(ReplayFault::NotClean(fault))) => {
             replay_refusal(alloc, base, which, fault)
         }
-        MergeFault::Log(which, cause) => Refusal::of(alloc, Status::LogRefused(which, cause)),
+        MergeFault::Log(which, cause) => {
+            Refusal::of(alloc, Status::LogRefused(which, LogCause::Renames(cause)))
+        }
         MergeFault::OutOfMemory => Refusal::out_of_memory(),
     }
 }
 
 /// The refusal of a log that does not replay on a base. Its line names addresses of the base.
 fn replay_refusal(alloc: Global, base: &Table, which: u8, fault: Fault) -> Refusal
-    ensures { IsRefusalOf base.now (MergeFault.Log which (LogCause.Replay (ReplayFault.NotClean fault))) result }
+    ensures { IsRefusalOf base.now (MergeFault.Log which (RenamesCause.Replay (ReplayFault.NotClean fault))) result }
 {
     match replay_line(alloc, base, which, &fault) {
         Ok(line) => Refusal {
-            status: Status::LogRefused(which, LogCause::Replay(ReplayFault::NotClean(fault))),
+            status: Status::LogRefused(
+                which,
+                LogCause::Renames(RenamesCause::Replay(ReplayFault::NotClean(fault))),
+            ),
             line: Line::Made(line),
         },
         Err(OutOfMemory) => Refusal::out_of_memory(),

@@ -4,7 +4,7 @@ use Rattle.mol_base.specs.Identity.{spelled_stamp}
 use Rattle.mol_log.specs.entries.RowsOf.{row_of}
 use Rattle.mol_log_rows.specs.rows.RowData.{row_pairs}
 use Rattle.mol_log.proofs.MembersInOrder.{in_order}
-use Rattle.mol_log.specs.Members.{put_pairs}
+use Rattle.mol_log_objects.specs.Members.{put_pairs}
 use Rattle.mol_log.proofs.objects.entry_value.Goals as goal
 
 pub returns : goal.returns

@@ -2,11 +2,11 @@ use Rattle.std.proofs.Common.{List, ℕ, codes, ap, ap₂, ◌∙◌}
 use Rattle.serde_json.specs.Data.{Members, put, string}
 use Rattle.mol_log_words.specs.TypeWords.{type_words}
 use Rattle.mol_log_rows.specs.lines.Objects.{texts_data}
-use Rattle.mol_log.specs.entries.RowsOf.{param_rows}
+use Rattle.mol_log_objects.specs.ParamRows.{param_rows}
 use Rattle.mol_log_rows.specs.rows.RowData.{id_data, kind_data, params_data}
 use Rattle.mol_values_types.specs.declared.param.Param.{Param}
 use Rattle.mol_log.proofs.MembersInOrder.{put_last}
-use Rattle.mol_log.specs.Members.{members_in}
+use Rattle.mol_log_objects.specs.Members.{members_in}
 use Rattle.mol_log.proofs.objects.put_add_method.Goals as goal
 
 pub returns : goal.returns

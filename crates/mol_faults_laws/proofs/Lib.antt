@@ -1,0 +1,4 @@
+pub mod EveryFault
+pub mod FaultOrder
+pub mod Listing
+pub mod OfEachKind

@@ -1,0 +1,3 @@
+pub mod DataTexts
+pub mod ParamItems
+pub mod PartTexts

@@ -1,0 +1,9 @@
+pub mod Appended
+pub mod Examples
+pub mod Laws
+pub mod LeftOut
+pub mod LifeWriters
+pub mod LogEntries
+pub mod Refusals
+pub mod WhatIsLeft
+pub mod WhoWrote

@@ -1,0 +1,9 @@
+pub mod Histories
+pub mod Lawful
+pub mod LeavingLaws
+pub mod Living
+pub mod LogLaws
+pub mod Logs
+pub mod Parts
+pub mod WriterLaws
+pub mod Writers

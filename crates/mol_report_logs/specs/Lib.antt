@@ -1,0 +1,4 @@
+pub mod Limits
+pub mod LogFaults
+pub mod OpFaults
+pub mod ReplayFaults

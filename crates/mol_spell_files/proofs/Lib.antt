@@ -1,0 +1,2 @@
+pub mod FilesInTurn
+pub mod TidiedFiles

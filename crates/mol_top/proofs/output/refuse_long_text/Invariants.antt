@@ -1,7 +1,0 @@
-use Rattle.std.proofs.Common.{◌≡◌, drop}
-use Rattle.mol_top.specs.Output.{long_text}
-use Rattle.mol_base.specs.Files.{file_pairs}
-use Rattle.mol_top.proofs.output.refuse_long_text.Given as goal
-
-abbrev pub invariant-loop-text : goal.invariant-loop-text
-invariant-loop-text l = long_text (file_pairs l.texts) ≡ long_text (file_pairs (drop l.text-index l.texts))

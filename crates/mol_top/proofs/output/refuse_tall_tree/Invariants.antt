@@ -1,6 +1,0 @@
-use Rattle.std.proofs.Common.{◌≡◌, drop}
-use Rattle.mol_top.specs.Output.{tall_tree}
-use Rattle.mol_top.proofs.output.refuse_tall_tree.Given as goal
-
-abbrev pub invariant-loop-height : goal.invariant-loop-height
-invariant-loop-height l = tall_tree l.heights ≡ tall_tree (drop l.height-index l.heights)

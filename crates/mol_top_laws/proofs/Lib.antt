@@ -1,0 +1,9 @@
+pub mod CleanBases
+pub mod Exactly
+pub mod KeptFaults
+pub mod Logs
+pub mod Merging
+pub mod PathsApart
+pub mod Replaying
+pub mod Replays
+pub mod Steps

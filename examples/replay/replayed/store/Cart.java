@@ -1,0 +1,9 @@
+package store;
+
+public class Cart {
+    private int count;
+
+    public int sum() {
+        return count;
+    }
+}
