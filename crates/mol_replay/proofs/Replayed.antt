@@ -10,7 +10,6 @@ use Rattle.mol_log_rules.specs.Logs.{history}
 use Rattle.mol_replay.specs.Replays.{Replays, ReplayRefuses, unclean}
 use Rattle.mol_replay.specs.declared.fault.ReplayFault.TheVariants as faults
 use Rattle.mol_spell_files.specs.Bundle.{digest_of}
-use Rattle.mol_spell_rules.specs.Clean.{Clean}
 use Rattle.mol_table_rules.specs.Program.{Program}
 
 module _ (base copy left : Program) (log : Log) (same : copy ≡ base) (leaves : left ≡ after copy (history log)) where
@@ -21,7 +20,8 @@ module _ (base copy left : Program) (log : Log) (same : copy ≡ base) (leaves :
   applies-over applies = subst (λ (program : Program). AppliesOn program (history log)) same applies
 
   -- the first fault of what is left of the base
-  first-over : (first : Option Fault) → IsFirst left (option_map kept_fault first) → IsFirst (after base (history log)) (option_map kept_fault first)
+  first-over : (first : Option Fault) → IsFirst left (option_map kept_fault first)
+      → IsFirst (after base (history log)) (option_map kept_fault first)
   first-over first told = subst (λ (program : Program). IsFirst program (option_map kept_fault first)) left-over told
 
   module _ (own : log.base_digest ≡ digest_of base) (applies : AppliesOn copy (history log)) where

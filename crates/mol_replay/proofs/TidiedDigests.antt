@@ -1,6 +1,6 @@
 -- A program has the digest that it has once it is tidied.
-use Rattle.std.proofs.Common.{◌≡◌, ◌∙◌, sym, ap, subst}
-use Rattle.std.specs.Prelude.{map, Result, Ok, Err, IfOk, ℕ, List}
+use Rattle.std.proofs.Common.{◌≡◌, ◌∙◌, ap}
+use Rattle.std.specs.Prelude.{map, ℕ, List}
 use Rattle.sha2.specs.Sha256.{sha256}
 use Rattle.mol_spell_files.specs.Bundle.{bundle, digest_of}
 use Rattle.mol_spell_files.specs.ProgramTexts.{written_text}

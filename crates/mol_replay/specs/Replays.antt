@@ -16,7 +16,8 @@ use Rattle.mol_spell_files.specs.Bundle.{digest_of}
 use Rattle.mol_spell_rules.specs.Clean.{Clean}
 use Rattle.mol_table_rules.specs.Program.{Program}
 
--- The log replays on the base: it was recorded over it, each entry applies to what those before it leave, and what all of them leave is clean.
+-- The log replays on the base: it was recorded over it, each entry applies to what those before it leave, and what all of them leave is
+-- clean.
 pub record Replays (base : Program) (log : Log) : Type 0 where
   pub digest : log.base_digest ≡ digest_of base
   pub applies : AppliesOn base (history log)

@@ -9,8 +9,8 @@ use mol_spell_names::ProgramIndex;
 use mol_table::Table;
 use std::alloc::Global;
 
-/// The digest of a program, by which a log says over which base it was recorded: SHA-256 (FIPS 180-4) of its files in the one layout, by their
-/// paths, each as its path, LF, its length in decimal, LF and its bytes. `Err` is want of memory.
+/// The digest of a program, by which a log says over which base it was recorded: SHA-256 (FIPS 180-4) of its files in the one layout, by
+/// their paths, each as its path, LF, its length in decimal, LF and its bytes. `Err` is want of memory.
 ///
 /// The table is tidied once, and the files are printed. The time is near-linear in their bytes, but for what names cost.
 pub fn digest(alloc: Global, base: &Table) -> Result<[u8; 32], OutOfMemory>

@@ -15,8 +15,8 @@ use std::alloc::Global;
 
 /// The program that a log leaves of a base: the base with the last writes of the log.
 ///
-/// Refuses, in this order: a log of another base, by its digest; the first entry that does not apply to what those before it leave; and what
-/// all of them leave, for its first fault. The base stays as it is.
+/// Refuses, in this order: a log of another base, by its digest; the first entry that does not apply to what those before it leave; and
+/// what all of them leave, for its first fault. The base stays as it is.
 ///
 /// The digest of the base is computed: where it is known, `replay_on` takes it. Else the time is that of `replay_on`.
 pub fn replay(alloc: Global, base: &Table, log: &Log) -> Result<Table, ReplayFault>
@@ -30,8 +30,8 @@ pub fn replay(alloc: Global, base: &Table, log: &Log) -> Result<Table, ReplayFau
     replay_on(alloc, base, &have, log)
 }
 
-/// The program that a log leaves of a base whose digest is known, as that of a base on which several logs are replayed. It answers as `replay`
-/// does.
+/// The program that a log leaves of a base whose digest is known, as that of a base on which several logs are replayed. It answers as
+/// `replay` does.
 ///
 /// The time is that of one copy of the base, of applying each entry once, and of finding the faults of what they leave.
 pub fn replay_on(

@@ -1,5 +1,5 @@
 -- The maps of a table stand after `set` and `add`.
-use Rattle.std.specs.Prelude.{◌≡◌, ◌≢◌, ◌≤◌, List, [], ◌∷◌, map, Option, None, Some, is_some, IsSome, Bool, true, false}
+use Rattle.std.specs.Prelude.{◌≡◌, ◌≢◌, ◌≤◌, List, [], ◌∷◌, map, Option, None, Some, IsSome, Bool, true, false}
 use Rattle.std.proofs.Common.{suc, refl, sym, ap, subst, ◌∙◌, arith}
 use Rattle.std.specs.List.{All, AllPairs, AllByRecursion}
 use Rattle.std.specs.List.Sorted.{IsSorted}
@@ -12,12 +12,9 @@ use Rattle.mol_table.specs.Maps.{program_in, counts_in, counts_of, cells_of, kno
 use Rattle.mol_table_rules.specs.Room.{AreFresh, AreApart}
 use Rattle.mol_table_rules.specs.Program.{Program, Knowns, same_id}
 use Rattle.mol_table_rules.specs.Rules.{IsProgram}
-use Rattle.mol_values_types.specs.Slots.{has_slot}
 use Rattle.mol_table_rules.specs.Writes.{with_value, with_values, with_entity, known_as}
 use Rattle.mol_values_types.specs.declared.cell.Cell.{Cell}
-use Rattle.mol_values_types.specs.declared.cell.Slot.{Slot}
 use Rattle.mol_table_rules.specs.declared.entity.NewEntity.{NewEntity}
-use Rattle.mol_values_types.specs.declared.known.Known.{Known}
 use Rattle.mol_table.specs.declared.maps.Maps.{Maps}
 use Rattle.mol_values_types.specs.declared.value.Value.{Value}
 use Rattle.mol_table.proofs.Counted.{counted-value, number-recounted, recounted-kept, number-some}

@@ -1,23 +1,17 @@
 -- The maps that a table keeps, as the program that they stand for.
-use Rattle.std.specs.Prelude.{◌≡◌, ◌≢◌, ℕ, ◌+◌, List, [], ◌∷◌, ◌++◌, length, map, None, IsSome, refl}
-use Rattle.std.specs.Coded.{Coded, code_by, coded×}
-use Rattle.std.specs.List.{All, AllByRecursion}
+use Rattle.std.specs.Prelude.{◌≡◌, ℕ, List, ◌++◌, map}
 use Rattle.std.specs.List.Sorted.{IsSorted}
-use Rattle.std.specs.FinMap.{from_entries, code, get}
+use Rattle.std.specs.FinMap.{from_entries}
 use Rattle.indexmap.specs.IndexMap.{keys}
 use Rattle.mol_base.specs.Order.{id_cmp}
 use Rattle.mol_base.specs.declared.ident.Id.{Id}
 use Rattle.mol_table_rules.specs.Counting.{Counts, Counted}
-use Rattle.mol_table_rules.specs.Life.{entity_in}
 use Rattle.mol_table_rules.specs.Program.{Program, Cells, Knowns}
 use Rattle.mol_table_rules.specs.Rules.{IsProgram}
 use Rattle.mol_values_types.specs.declared.cell.Cell.{Cell}
-use Rattle.mol_table_rules.specs.declared.entity.NewEntity.{NewEntity}
 use Rattle.mol_values_types.specs.declared.known.Known.{Known}
 use Rattle.mol_table.specs.declared.maps.Maps.{Maps}
-use Rattle.mol_values_types.specs.declared.param.Param.{Param}
 use Rattle.mol_values_types.specs.declared.value.Value.{Value}
-use Rattle.mol_values_types.specs.declared.value.Value.TheVariants as values
 
 abbrev pub cells_of : List (Cell × Value) → Cells
 cells_of entries = from_entries entries

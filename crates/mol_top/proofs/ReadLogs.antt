@@ -11,10 +11,9 @@ use Rattle.mol_top.proofs.LogLimits.{log_above}
 use Rattle.mol_top.proofs.Stopping.{store_plain}
 use Rattle.mol_top.specs.Answers.{log_status, store_status}
 use Rattle.mol_top.specs.Carried.{Carries}
-use Rattle.mol_top.specs.Logs.{IsLogAt, LogRefuses, RefuseLog}
+use Rattle.mol_top.specs.Logs.{IsLogAt, LogRefuses}
 use Rattle.mol_top.specs.Outside.{IfTold, Store}
-use Rattle.mol_top.specs.ReadLogs.{CarriesLog, IsForLog, IsLogStopped, IsRefusalOfLog, IsStoppedAt}
-use Rattle.mol_top.specs.Refused.{IsForMemory}
+use Rattle.mol_top.specs.ReadLogs.{CarriesLog, IsLogStopped, IsRefusalOfLog, IsStoppedAt}
 use Rattle.mol_top.specs.Report.{line_bytes, names_addresses, refusal_line}
 use Rattle.mol_top.specs.Steps.{Only, Stops, StopsBy}
 use Rattle.mol_top.specs.declared.fault.StoreFault.{StoreFault}

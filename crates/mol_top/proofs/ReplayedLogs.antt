@@ -1,8 +1,7 @@
 -- What `replay` makes over a base, and what stops it.
 use Rattle.std.proofs.Common.{◌≡◌, ◌≢◌, ◌⊎◌, inl, inr, ℕ, Bool, true, false, List, refl, sym, ◌∙◌, ap, subst, arith, map}
-use Rattle.std.specs.Prelude.{None, Some, option_map}
+use Rattle.std.specs.Prelude.{Some, option_map}
 use Rattle.mol_log.specs.declared.log.Log.{Log}
-use Rattle.mol_outside.specs.Contents.{Contents}
 use Rattle.mol_replay.specs.Replays as replaying
 use Rattle.mol_replay.specs.Replays.{Replays}
 use Rattle.mol_replay.specs.declared.fault.ReplayFault.{ReplayFault}
@@ -28,10 +27,9 @@ use Rattle.mol_top.specs.Outside.{IfTold, OnlyReads, Store}
 use Rattle.mol_top.specs.Prepared.{IsStopped, Prepares}
 use Rattle.mol_top.specs.ProgramWork.{IsFilesWork, StopsLarge}
 use Rattle.mol_top.specs.ReadLogs.{CarriesLog, IsLogStopped, IsStoppedAt, RefusesOut}
-use Rattle.mol_top.specs.Refusals.{out_refusal}
 use Rattle.mol_top.specs.ReplayWork.{IsForLimit, IsLogOrOut, IsMadeOver, IsRefusalOfFault, IsRefusalOfLimits, IsRefusalOfReplay, IsRefusalWith}
 use Rattle.mol_top.specs.ReplayWork.{IsReplayStopped, IsReplayWork, IsStoppedOver}
-use Rattle.mol_top.specs.Replaying.{HasLog, RefuseReplay, RefusesOver, ReplayRefuses, left_by}
+use Rattle.mol_top.specs.Replaying.{HasLog, RefusesOver, ReplayRefuses, left_by}
 use Rattle.mol_top.specs.Report.{line_bytes, log_line, names_addresses, refusal_line}
 use Rattle.mol_top.specs.Steps.{IsNamed, Only, StopsBy}
 use Rattle.mol_top.specs.UncleanLines.{program_line}

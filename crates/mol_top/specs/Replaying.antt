@@ -1,5 +1,5 @@
 -- What `replay` writes, and what refuses it.
-use Rattle.std.specs.Prelude.{◌≡◌, ℕ, List, None, Some}
+use Rattle.std.specs.Prelude.{◌≡◌, None, Some}
 use Rattle.mol_log.specs.declared.log.Log.{Log}
 use Rattle.mol_log_rules.specs.Histories.{after}
 use Rattle.mol_log_rules.specs.Logs.{history}

@@ -27,11 +27,13 @@ use Rattle.mol_top.specs.declared.status.Status.TheVariants.{BaseRefused}
 -- # Clean programs
 
 -- a program is clean or has a first fault
-pub clean_step : (program : Program) → IsExactStep (λ (fault : Kept). IsFirst program (Some (kept_fault fault))) (λ (one : Unit {0}). Clean program)
+pub clean_step : (program : Program)
+    → IsExactStep (λ (fault : Kept). IsFirst program (Some (kept_fault fault))) (λ (one : Unit {0}). Clean program)
 clean_step program = record {
   either = by (first_fault_told.either program);
   apart = λ fault one first clean. first_fault_told.apart program (kept_fault fault) clean first;
-  one_refusal = λ first second is also. kept-same first second (first_fault_told.one program (kept_fault first) (kept_fault second) is also);
+  one_refusal = λ first second is also.
+      kept-same first second (first_fault_told.one program (kept_fault first) (kept_fault second) is also);
   one_gift = λ first second is also. refl;
 }
   where
@@ -40,8 +42,11 @@ clean_step program = record {
     by (inl clean) = inr (tt, clean)
     by (inr first) = inl (fault_of first.0, subst (IsFirstFault program) (sym (fault-kept first.0)) first.1)
 
-program_step : (program : Program)
-    → IsExactStep (RefuseProgram program) (λ (known : Program). (one : Unit {0}) × Clean program × (known ≡ program))
+-- a program is known where it is clean
+abbrev IsKnown : Program → Program → Type 0
+IsKnown program known = (one : Unit {0}) × Clean program × (known ≡ program)
+
+program_step : (program : Program) → IsExactStep (RefuseProgram program) (IsKnown program)
 program_step program =
     reworded (given_as (refused_as (clean_step program) (λ fault. BaseRefused (Unclean fault))) (λ one. program))
     (λ status refused. record { fault = refused.0; first = refused.1; is = refused.2 })
@@ -66,7 +71,8 @@ module _ (alloc : Global) where
       one_gift = told.one_program files;
     }
       where
-        by : HasProgram files ⊎ HasFault files → ((status : Status) × RefuseFiles files status) ⊎ ((program : Program) × IsReadAs files program)
+        by : HasProgram files ⊎ HasFault files
+            → ((status : Status) × RefuseFiles files status) ⊎ ((program : Program) × IsReadAs files program)
         by (inl has) = inr (has.program, has.read)
         by (inr has) = inl (
           BaseRefused (Source has.place has.fault),
@@ -75,7 +81,8 @@ module _ (alloc : Global) where
 
         one : (first second : Status) → RefuseFiles files first → RefuseFiles files second → first ≡ second
         one first second refused also =
-            let same = told.one_fault files (base_apart base held) refused.place also.place refused.fault also.fault refused.wrong also.wrong in
+            let same =
+            told.one_fault files (base_apart base held) refused.place also.place refused.fault also.fault refused.wrong also.wrong in
             refused.is ∙ (λ i. BaseRefused (Source (same.0 i) (same.1 i))) ∙ sym also.is
 
     -- what is told of the files is told of the base
@@ -83,7 +90,7 @@ module _ (alloc : Global) where
     Further = SomeRefuses (RefuseFiles files) (IsReadAs files) RefuseProgram
 
     abbrev ProgramOf : Program → Type 0
-    ProgramOf = BothGive (IsReadAs files) (λ (program known : Program). (one : Unit {0}) × Clean program × (known ≡ program))
+    ProgramOf = BothGive (IsReadAs files) IsKnown
 
     abbrev IsRead : Unit {0} → Type 0
     IsRead one = (reading_refusal base held ≡ None) × (one ≡ tt)
@@ -119,7 +126,8 @@ module _ (alloc : Global) where
     -- a base is refused or is a clean program
     pub base_step : IsExactStep (BaseRefuses base held) (IsCleanBase base held)
     base_step =
-        reworded (in_turn (option_step (reading_refusal base held) (tt {0})) (λ one is. in_turn files_step (λ program read. program_step program)))
+        reworded
+        (in_turn (option_step (reading_refusal base held) (tt {0})) (λ one is. in_turn files_step (λ program read. program_step program)))
         to from is-clean clean-is
 
     pub one_program : (first second : Program) → IsBaseOf base held first → IsBaseOf base held second → first ≡ second

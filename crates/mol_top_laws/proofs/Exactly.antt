@@ -44,18 +44,22 @@ module _ (alloc : Global) where
     abbrev RefusesFiles : Program → Status → Type 0
     RefusesFiles program status = output_refusal w.out program held ≡ Some status
 
-    fmt-to : (status : Status) → SomeRefuses (BaseRefuses w.base held) (IsCleanBase w.base held) RefusesFiles status → FmtRefuses w held status
+    abbrev Refused : Status → Type 0
+    Refused = SomeRefuses (BaseRefuses w.base held) (IsCleanBase w.base held) RefusesFiles
+
+    fmt-to : (status : Status) → Refused status → FmtRefuses w held status
     fmt-to status (inl refused) = FmtRefuses.base refused
     fmt-to status (inr later) = FmtRefuses.files later.0 later.1 later.2
 
-    fmt-from : (status : Status) → FmtRefuses w held status → SomeRefuses (BaseRefuses w.base held) (IsCleanBase w.base held) RefusesFiles status
+    fmt-from : (status : Status) → FmtRefuses w held status → Refused status
     fmt-from status (FmtRefuses.base refused) = inl refused
     fmt-from status (FmtRefuses.files program is says) = inr (program, is, says)
 
     fmt_step : IsExactStep (FmtRefuses w held) (FmtComesTo w held)
     fmt_step =
         reworded
-        (in_turn (base_step alloc w.base held) (λ program is. option_step (output_refusal w.out program held) (fmt_outcome w.out (program_texts program))))
+        (in_turn (base_step alloc w.base held)
+        (λ program is. option_step (output_refusal w.out program held) (fmt_outcome w.out (program_texts program))))
         fmt-to fmt-from
         (λ outcome given. record { program = given.0; base = given.1; allowed = given.2.0; is = given.2.1 })
         (λ outcome (comes : FmtComesTo w held outcome). (comes.program, comes.base, (comes.allowed, comes.is)))

@@ -23,7 +23,8 @@ module _ (w : MergeWords) (held : Contents) where
   log_there : (path : List ℕ) → log_refusal w held path ≡ None → log_at w held path ≡ None → ⊥
   log_there path allowed none =
       let part = (or-none (absent_input path held) (if is_some (log_at w held path) then None else Some (NotBuilt path)) allowed).1 in
-      let no : Some (NotBuilt path) ≡ None = subst (λ (o : Option Log). (if is_some o then None else Some (NotBuilt path)) ≡ None) none part in
+      let no : Some (NotBuilt path) ≡ None =
+      subst (λ (o : Option Log). (if is_some o then None else Some (NotBuilt path)) ≡ None) none part in
       absurd cc
 
   -- what refuses a merge once its logs are read

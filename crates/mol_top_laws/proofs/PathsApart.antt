@@ -19,7 +19,8 @@ module _ (paths : List (List ℕ)) (sorted : IsStrictlySortedBy (slice_cmp nat_c
   not_before : (path : List ℕ) (i j : ℕ) → slice_get paths i ≡ Some path → slice_get paths j ≡ Some path → i < j → ⊥
   not_before path i j at also below =
       let less = Less-from_sorted (slice_cmp nat_cmp) paths i j [] sorted below (slice_get_within paths j path also) in
-      let same : slice_cmp nat_cmp path path ≡ Less = rw (get_or_from_slice_get paths i path [] at, get_or_from_slice_get paths j path [] also) at less in
+      let same : slice_cmp nat_cmp path path ≡ Less =
+      rw (get_or_from_slice_get paths i path [] at, get_or_from_slice_get paths j path [] also) at less in
       let tied = tied_itself nat_list_cmp_total path in
       cc
 
@@ -34,6 +35,7 @@ listed_at folder held (p ∷ paths) (suc i) file at = listed_at folder held path
 
 pub base_apart : (base : List ℕ) (held : Contents) → ArePathsApart (base_files base held)
 base_apart base held i j file other at also same =
-    let sorted = IsStrictlySortedBy-filter (slice_cmp nat_cmp) is_java (paths_below base held) (below_sorted base (entries held) (entries_sorted held)) in
+    let below = below_sorted base (entries held) (entries_sorted held) in
+    let sorted = IsStrictlySortedBy-filter (slice_cmp nat_cmp) is_java (paths_below base held) below in
     one_place (base_paths base held) sorted file.0 i j (listed_at base held (base_paths base held) i file at)
     (listed_at base held (base_paths base held) j other also ∙ ap Some (sym same))

@@ -45,9 +45,11 @@ digest_step have want = record {
 -- each entry applies or one is the first that does not
 module _ (base : Program) (entries : History) where
   abbrev IsStoppedAt : ReplayFault → Type 0
-  IsStoppedAt fault = (refused : Stamp × OpFault) × (first_refused base entries ≡ Some refused) × (fault ≡ faults.NotApplicable refused.0 refused.1)
+  IsStoppedAt fault =
+      (refused : Stamp × OpFault) × (first_refused base entries ≡ Some refused) × (fault ≡ faults.NotApplicable refused.0 refused.1)
 
-  first_step : IsExactStep (λ (refused : Stamp × OpFault). first_refused base entries ≡ Some refused) (λ (one : Unit {0}). AppliesOn base entries)
+  first_step : IsExactStep (λ (refused : Stamp × OpFault). first_refused base entries ≡ Some refused)
+      (λ (one : Unit {0}). AppliesOn base entries)
   first_step = record {
     either = by (first_refused base entries) refl;
     apart = λ refused one is applies. none_some (first_refused base entries) refused is ((last_writes_left.applies base entries).1 applies);

@@ -22,8 +22,8 @@ returns-in_err-apply_log-clause-refused c =
 
 pub returns-in_err-first_fault-clause-refused : goal.returns-in_err-first_fault-clause-refused
 returns-in_err-first_fault-clause-refused c =
-    answered c.args.base.now c.args.log.now c.from_residual-in_err-first_fault.result OutOfMemory c.from_residual-in_err-first_fault.ensures.1
-    (refuses-memory c.args.base.now c.args.log.now)
+    answered c.args.base.now c.args.log.now c.from_residual-in_err-first_fault.result OutOfMemory
+    c.from_residual-in_err-first_fault.ensures.1 (refuses-memory c.args.base.now c.args.log.now)
 
 pub returns-in-None-clause-left : goal.returns-in-None-clause-left
 returns-in-None-clause-left c =
