@@ -3,6 +3,8 @@ use Rattle.std.specs.List.{AllZip, flat_map}
 use Rattle.std.specs.Option.{option_to_list}
 use Rattle.std.specs.Ordering.{is_lt}
 use Rattle.std.specs.Prelude.{◌≡◌, List, [], ◌∷◌, ◌++◌, map, Option, None, Some, if◌then◌else◌}
+use Rattle.std.specs.declared.cmp.Ordering.{Ordering}
+use Rattle.std.specs.declared.cmp.Ordering.TheVariants.{Less, Equal, Greater}
 use Rattle.mol_base.specs.Order.{stamp_cmp}
 use Rattle.mol_base.specs.declared.ident.Id.{Id}
 use Rattle.mol_base.specs.declared.ident.Stamp.{Stamp}
@@ -25,16 +27,17 @@ use Rattle.mol_values_types.specs.declared.value.Value.{Value}
 
 -- ---- stamps
 
-abbrev pub ascending_stamps : List Stamp → List Stamp
-ascending_stamps = as_set stamp_cmp
+-- two stamps in order, each once
+abbrev pub both_stamps : Ordering → Stamp → Stamp → List Stamp
+both_stamps Less one other = one ∷ other ∷ []
+both_stamps Equal one other = one ∷ []
+both_stamps Greater one other = other ∷ one ∷ []
 
--- of two stamps those that are there
-abbrev pub these_stamps : Option Stamp → Option Stamp → List Stamp
-these_stamps one other = option_to_list one ++ option_to_list other
-
--- they in order
+-- of two stamps those that are there, in order
 abbrev pub stamps_of : Option Stamp → Option Stamp → List Stamp
-stamps_of one other = ascending_stamps (these_stamps one other)
+stamps_of (Some one) (Some other) = both_stamps (stamp_cmp one other) one other
+stamps_of (Some one) None = one ∷ []
+stamps_of None other = option_to_list other
 
 -- of what is gone after a history: who wrote last whether it lives, and who wrote in the other history
 abbrev pub gone_stamps : Program → History → Id → Option Stamp → List Stamp
@@ -53,7 +56,7 @@ pair_stamps base one other (gone_used id at) =
 
 -- the last writers of a cell, in either
 abbrev pub writers : History → History → Cell → List Stamp
-writers one other at = these_stamps (writer one at) (writer other at)
+writers one other at = option_to_list (writer one at) ++ option_to_list (writer other at)
 
 -- ---- conflicts of pairs
 
@@ -89,7 +92,7 @@ pub record IsBad (base : Program) (one other : History) (fault : Fault) (conflic
   pub kind : conflict.kind ≡ Bad fault
   pub cells : List Cell
   pub rests : IsSupport (united base one other) (kept_fault fault) cells
-  pub stamps : conflict.stamps ≡ ascending_stamps (flat_map (writers one other) cells)
+  pub stamps : conflict.stamps ≡ as_set stamp_cmp (flat_map (writers one other) cells)
 
 -- all of them, in the order of faults
 pub record AreBads (base : Program) (one other : History) (list : List Conflict) : Type 0 where
