@@ -1,6 +1,6 @@
 use Rattle.std.proofs.Common.{map, subst}
 use Rattle.std.specs.Prelude.{◌↔◌, Contains, IfOk}
-use Rattle.mol_faults.proofs.supports.names_of_tidied.Goals as goal
+use Rattle.mol_faults.proofs.names.names_of_tidied.Goals as goal
 use Rattle.mol_faults_misread.specs.misread_faults.Found.{Found, IsMisread, kept_name}
 use Rattle.mol_table_rules.specs.Program.{Program}
 
