@@ -11,7 +11,7 @@ use Rattle.mol_base.specs.Order.{id_cmp-total}
 use Rattle.mol_base.specs.declared.ident.Id.{Id}
 use Rattle.mol_resolve_rules.proofs.Stands.{in_front, behind, in_either, from_some, in_some}
 use Rattle.mol_spell_rules.specs.Support.{IsConstructorOf, IsDeclarationOf}
-use Rattle.mol_faults_support.specs.Declarations.{DeclaresAny, ConstructsAny, AreSame, listed, declaration_if, declaration_among, owned_if, constructed_if, constructor_if, constructor_among}
+use Rattle.mol_faults_support.specs.Declarations.{DeclaresAny, ConstructsAny, AreSame}
 use Rattle.mol_table_rules.proofs.Living.{id_tied}
 use Rattle.mol_table_rules.specs.Identities.{AreKnown}
 use Rattle.mol_table_rules.specs.Program.{Program, same_id, owner_at}

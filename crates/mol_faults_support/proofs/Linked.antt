@@ -214,7 +214,7 @@ module _ (program : Program) (ids : List Id) (known : AreKnown program ids) wher
     back is = subst (λ xs. Contains xs found) (sym made)
         (in_some (constructor_link program) ids found.id found
         ((known found.id).1 (some-known (get program.known found.id) _ is.declares))
-        (ap (constructed_as found.id) is.declares ∙ ap (constructed_by program found.id) is.is_constructor
+        (ap (constructed_as program found.id) is.declares ∙ ap (constructed_by program found.id) is.is_constructor
         ∙ ap (option_map (λ class. link class found.id)) is.owned))
 
 -- ---- those of several methods and classes

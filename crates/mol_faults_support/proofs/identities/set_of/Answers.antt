@@ -2,7 +2,7 @@ use Rattle.std.proofs.Common.{subst}
 use Rattle.std.proofs.lemmas.List.{take_all}
 use Rattle.mol_faults_support.specs.Declarations.{AreSame}
 use Rattle.mol_faults_support.proofs.Among.{same-none, same-more}
-use Rattle.mol_faults_support.proofs.declarations.set_of.Goals as goal
+use Rattle.mol_faults_support.proofs.identities.set_of.Goals as goal
 
 pub loop-id-init : goal.loop-id-init
 loop-id-init c = same-none c.new-set.result.keys c.new-set.ensures.empty
