@@ -1,25 +1,20 @@
 -- Identities of a set.
-use Rattle.std.proofs.Common.{◌≡◌, ◌⊎◌, inl, inr, ℕ, ◌+◌, ◌<◌, Bool, true, false, cond, List, [], ◌∷◌, ◌++◌, take, get_or, length, filter_map, Option, Some, None, is_some, Contains, refl, sym, ◌∙◌, ap, subst}
+use Rattle.std.proofs.Common.{◌≡◌, ◌⊎◌, inl, inr, ℕ, ◌+◌, ◌<◌, Bool, true, false, cond, List, [], ◌∷◌, ◌++◌, take, get_or, length, Contains, refl, sym, ◌∙◌, ap, subst}
 use Rattle.indexmap.specs.IndexSet.{insert_key}
 use Rattle.std.proofs.lemmas.List.{take_more}
 use Rattle.std.proofs.lemmas.Map.Views.{list_any-from_Contains, Contains-from_any}
 use Rattle.std.specs.Cmp.{eq_by_cmp_equiv}
-use Rattle.std.specs.FinMap.{get}
 use Rattle.std.specs.List.{list_any}
 use Rattle.jav_names.proofs.Lists.{stands_nowhere, stands_where}
 use Rattle.mol_base.specs.Order.{id_cmp-total}
 use Rattle.mol_base.specs.declared.ident.Id.{Id}
-use Rattle.mol_resolve_rules.proofs.Stands.{in_front, behind, in_either, from_some, in_some}
+use Rattle.mol_resolve_rules.proofs.Stands.{in_front, behind, in_either}
 use Rattle.mol_spell_rules.specs.Support.{IsConstructorOf, IsDeclarationOf}
 use Rattle.mol_faults_support.specs.Declarations.{DeclaresAny, ConstructsAny, AreSame}
 use Rattle.mol_table_rules.proofs.Living.{id_tied}
-use Rattle.mol_table_rules.specs.Identities.{AreKnown}
-use Rattle.mol_table_rules.specs.Program.{Program, same_id, owner_at}
+use Rattle.mol_table_rules.specs.Program.{Program, same_id}
 use Rattle.mol_values_types.proofs.Ties.{any_tied}
 use Rattle.mol_values_types.specs.Order.{id_eq}
-use Rattle.mol_values_types.specs.declared.kind.MethodKind.TheVariants.{Instance, Static, Constructor}
-use Rattle.mol_values_types.specs.declared.known.Known.{Known}
-use Rattle.mol_values_types.specs.declared.known.Known.TheVariants as knowns
 
 -- ---- sets
 

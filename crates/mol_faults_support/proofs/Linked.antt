@@ -46,10 +46,10 @@ module _ (run : List Link) (i : ℕ) (x : Link) (within : i < length run) (is : 
   wider : (id : Id) → Contains old id ⊎ ((found : Link) × Contains (take i run) found × (found.id ≡ id)) → To id
   wider id (inl stands) = inl stands
   wider id (inr found) = inr (
-      found.0,
-      subst (λ xs. Contains xs found.0) (sym longer) (in_front (take i run) (x ∷ []) found.0 found.1),
-      found.2,
-    )
+    found.0,
+    subst (λ xs. Contains xs found.0) (sym longer) (in_front (take i run) (x ∷ []) found.0 found.1),
+    found.2,
+  )
 
   last : (id : Id) → (x.id ≡ id) ⊎ Contains [] id → To id
   last id (inl same) = inr (x, subst (λ xs. Contains xs x) (sym longer) (behind (take i run) (x ∷ []) x (stands_first x [])), same)

@@ -1,5 +1,5 @@
 -- Rows of one key stand together in a list that is sorted by keys.
-use Rattle.std.proofs.Common.{◌≡◌, ℕ, ◌+◌, ◌-◌, ◌<◌, ◌≤◌, ◌⊎◌, inl, inr, true, false, List, length, length-drop, length-take, get_or, get_or-drop, take, drop, Contains, refl, sym, ◌∙◌, ap, subst, arith, true≢false, Ordering, Less, Equal, Greater}
+use Rattle.std.proofs.Common.{◌≡◌, ℕ, ◌+◌, ◌-◌, ◌<◌, ◌≤◌, ◌⊎◌, inl, inr, true, false, List, length, length-drop, length-take, get_or, get_or-drop, take, drop, Contains, refl, sym, ◌∙◌, ap, arith, true≢false, Ordering, Less, Equal, Greater}
 use Rattle.std.specs.List.Sorted.{IsPartitionPoint, IsPartitionedBy, IsSortedBy}
 use Rattle.std.specs.Ordering.{is_eq, is_lt, ordering_index}
 use Rattle.std.specs.Prelude.{◌↔◌}

@@ -1,4 +1,4 @@
-use Rattle.std.proofs.Common.{◌∙◌, sym, subst}
+use Rattle.std.proofs.Common.{◌∙◌, subst}
 use Rattle.std.proofs.lemmas.Result.{IfOk-weaker}
 use Rattle.mol_spell_rules.specs.DefaultCreations.{default_creations}
 use Rattle.mol_faults_support.specs.Declarations.{AreSame, ConstructsAny}

@@ -4,7 +4,6 @@ use Rattle.mol_faults_support.specs.Cells.{cells_of, own_life}
 use Rattle.mol_faults_support.specs.Declarations.{DeclaresAny}
 use Rattle.mol_faults_support.proofs.CellsOf.{are-lives}
 use Rattle.mol_faults_support.proofs.life.lives.Goals as goal
-use Rattle.mol_table_rules.specs.Program.{Program}
 use Rattle.mol_values_types.specs.declared.cell.Slot.TheVariants as slots
 
 pub returns : goal.returns

@@ -16,9 +16,9 @@ returns c =
     let declarations = c.as_slice-declarations.result.now in
     on_ok_weaker c.add_headers-2.result
     (λ is. adds-targets program met entities declarations (c.as_slice-entities.ensures.value ∙ c.in_ok-found.ensures
-    ∙ ap (λ (p : Program). filter_map (λ target. entity_of p (kept_met target)) met) c.table.ensures)
+    ∙ ap (λ (p : Program). filter_map (λ target. entity_of p (kept_met target)) met) c.table-table.ensures)
     (subst (DeclaresAny program (filter_map (λ target. method_for program (kept_met target)) met))
     (sym c.as_slice-declarations.ensures.value) c.in_ok-declared.ensures)
-    c.args.cells.now.items _ (is ∙ (λ k. (c.in_ok-add_headers.ensures ∙ ap (λ (p : Program). c.args.cells.now.items ++ flat_map (header_of p) entities) c.table.ensures) k
-    ++ flat_map (header_of (c.table.ensures k)) declarations)))
+    c.args.cells.now.items _ (is ∙ (λ k. (c.in_ok-add_headers.ensures ∙ ap (λ (p : Program). c.args.cells.now.items ++ flat_map (header_of p) entities) c.table-table.ensures) k
+    ++ flat_map (header_of (c.table-table.ensures k)) declarations)))
     c.add_headers-2.ensures

@@ -6,12 +6,12 @@ use Rattle.mol_faults_support.proofs.supports.rests_on.Goals as goal
 
 pub returns-in-SameAddress : goal.returns-in-SameAddress
 returns-in-SameAddress c =
-    table-arm c.same_address.result (λ cells. cells.items) c.args.index.now c.args.fault.now _ c.table.ensures _ c.in-SameAddress.is
+    table-arm c.same_address.result (λ cells. cells.items) c.args.index.now c.args.fault.now _ c.table-table.ensures _ c.in-SameAddress.is
     c.same_address.ensures
 
 pub returns-in-FalseOverride : goal.returns-in-FalseOverride
 returns-in-FalseOverride c =
-    table-arm c.false_override.result (λ cells. cells.items) c.args.index.now c.args.fault.now _ c.table.ensures _ c.in-FalseOverride.is
+    table-arm c.false_override.result (λ cells. cells.items) c.args.index.now c.args.fault.now _ c.table-table.ensures _ c.in-FalseOverride.is
     c.false_override.ensures
 
 pub returns-in-Apart : goal.returns-in-Apart
@@ -32,7 +32,7 @@ returns-in-Misread c = misread-arm c.misread.result (λ cells. cells.items) c.ar
 
 pub returns-in-LocalClash : goal.returns-in-LocalClash
 returns-in-LocalClash c =
-    clash-arm c.local_clash.result (λ cells. cells.items) c.args.index.now c.args.fault.now _ c.table.ensures _ _ c.in-LocalClash.is
+    clash-arm c.local_clash.result (λ cells. cells.items) c.args.index.now c.args.fault.now _ c.table-table.ensures _ _ c.in-LocalClash.is
     c.local_clash.ensures
 
 pub returns-in-PackageIsClass : goal.returns-in-PackageIsClass
