@@ -3,3 +3,4 @@ pub mod Joined
 pub mod MetAdded
 pub mod MetMore
 pub mod MetNames
+pub mod NamesSorted

@@ -10,6 +10,7 @@ use Rattle.mol_faults_rules.specs.declared.fault.Fault.{Fault}
 use Rattle.mol_faults_rules.specs.declared.fault.Fault.TheVariants as faults
 use Rattle.mol_faults_rules.specs.declared.target.Target.{Target as KeptTarget}
 use Rattle.mol_faults.specs.Met.{met_among, met_by, met_in}
+use Rattle.mol_faults.proofs.NamesSorted.{AreThere}
 use Rattle.mol_faults_misread.proofs.misread_faults_lemmas.NamesTold.{Is, name-own, name-same}
 use Rattle.mol_faults_misread.specs.misread_faults.Found.{Found, IsMisread, is_name}
 use Rattle.mol_spell_rules.specs.references.References.{Target}
@@ -92,7 +93,7 @@ module _ (program : Program) where
       record { class = class; target = target; misread = reads; is_target = refl; is_named = refl; is_instead = refl }
 
   module _ (at : Cell) (number : ℕ) (target : FaultTarget) (names : List Found)
-      (are : (found : Found) → Contains names found ↔ IsMisread (tidy program) found) where
+      (are : AreThere (tidy program) at number names) where
     met-of : (met : Target) (found : Found) (told : Bool) → is_name at number target found ≡ told → IsMisread (tidy program) found
         → Contains (if told then met_by found.name else []) met → MetBy at number target met
     met-of met found false is reads stands = absurd (stands_nowhere met stands)
@@ -109,7 +110,7 @@ module _ (program : Program) where
         let found = name-of class at number t reads in
         let told : is_name at number target found ≡ true =
         subst (λ (x : FaultTarget). is_name at number x found ≡ true) same (name-own found) in
-        in_each (met_in at number target) names found met ((are found).1 (name-is class at number t reads))
+        in_each (met_in at number target) names found met (are.all found (name-is class at number t reads) refl refl)
         (subst (λ b. Contains (if b then met_by found.name else []) met) (sym told) stands)
 
     all-met : (met : Target) → IsMetBy program at number target met → IsTrue (is_of_program met)
@@ -126,18 +127,17 @@ module _ (program : Program) where
     met-are : (met : Target) → Contains (met_among at number target names) met ↔ MetBy at number target met
     met-are met = (
       λ stands. let found = from_each (met_in at number target) names met stands in
-          met-of met found.0 (is_name at number target found.0) refl ((are found.0).0 found.1) found.2,
+          met-of met found.0 (is_name at number target found.0) refl (are.misread found.0 found.1) found.2,
       λ is. all-met met is.0 is.1,
     )
 
 -- what the misread names of a fault have to do with is what it has
-pub has-met : (program tidied : Program) (at : Cell) (number : ℕ) (target : FaultTarget) (names : List Found) → tidied ≡ tidy program
-    → ((found : Found) → Contains names found ↔ IsMisread tidied found) → (met : List Target) → met ≡ met_among at number target names
+pub has-met : (program : Program) (at : Cell) (number : ℕ) (target : FaultTarget) (names : List Found)
+    → AreThere (tidy program) at number names → (met : List Target) → met ≡ met_among at number target names
     → HasMet program (misread at number target) met
-has-met program tidied at number target names is are met same t =
+has-met program at number target names are met same t =
     subst (λ (all : List Target). Contains all t ↔ (IsMetBy program at number target t × IsTrue (is_of_program t))) (sym same)
-    (met-are program at number target names
-    (λ found. subst (λ (p : Program). Contains names found ↔ IsMisread p found) is (are found)) t)
+    (met-are program at number target names are t)
 
 -- another fault has to do with no name
 pub none-met : (program : Program) (fault : Fault) → ((at : Cell) (number : ℕ) (target : KeptTarget) → fault ≢ faults.Misread at number target)

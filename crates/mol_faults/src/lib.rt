@@ -3,9 +3,10 @@
 
 mod all;
 mod first;
+mod names;
 mod supports;
 
 pub use all::faults;
 pub use first::{first_fault, first_fault_of_tidied};
 pub use mol_faults_rules::{Conflict, ConflictKind, Fault, Target};
-pub use supports::support;
+pub use supports::{Supports, support};

@@ -1,25 +1,20 @@
--- Identities of a set, and declarations that are found among all that is known.
-use Rattle.std.proofs.Common.{◌≡◌, ◌⊎◌, inl, inr, ℕ, ◌+◌, ◌<◌, Bool, true, false, cond, List, [], ◌∷◌, ◌++◌, take, get_or, length, filter_map, Option, Some, None, is_some, Contains, refl, sym, ◌∙◌, ap, subst}
+-- Identities of a set.
+use Rattle.std.proofs.Common.{◌≡◌, ◌⊎◌, inl, inr, ℕ, ◌+◌, ◌<◌, Bool, true, false, cond, List, [], ◌∷◌, ◌++◌, take, get_or, length, Contains, refl, sym, ◌∙◌, ap, subst}
 use Rattle.indexmap.specs.IndexSet.{insert_key}
 use Rattle.std.proofs.lemmas.List.{take_more}
 use Rattle.std.proofs.lemmas.Map.Views.{list_any-from_Contains, Contains-from_any}
 use Rattle.std.specs.Cmp.{eq_by_cmp_equiv}
-use Rattle.std.specs.FinMap.{get}
 use Rattle.std.specs.List.{list_any}
 use Rattle.jav_names.proofs.Lists.{stands_nowhere, stands_where}
 use Rattle.mol_base.specs.Order.{id_cmp-total}
 use Rattle.mol_base.specs.declared.ident.Id.{Id}
-use Rattle.mol_resolve_rules.proofs.Stands.{in_front, behind, in_either, from_some, in_some}
+use Rattle.mol_resolve_rules.proofs.Stands.{in_front, behind, in_either}
 use Rattle.mol_spell_rules.specs.Support.{IsConstructorOf, IsDeclarationOf}
-use Rattle.mol_faults_support.specs.Declarations.{DeclaresAny, ConstructsAny, AreSame, listed, declaration_if, declaration_among, owned_if, constructed_if, constructor_if, constructor_among}
+use Rattle.mol_faults_support.specs.Declarations.{DeclaresAny, ConstructsAny, AreSame}
 use Rattle.mol_table_rules.proofs.Living.{id_tied}
-use Rattle.mol_table_rules.specs.Identities.{AreKnown}
-use Rattle.mol_table_rules.specs.Program.{Program, same_id, owner_at}
+use Rattle.mol_table_rules.specs.Program.{Program, same_id}
 use Rattle.mol_values_types.proofs.Ties.{any_tied}
 use Rattle.mol_values_types.specs.Order.{id_eq}
-use Rattle.mol_values_types.specs.declared.kind.MethodKind.TheVariants.{Instance, Static, Constructor}
-use Rattle.mol_values_types.specs.declared.known.Known.{Known}
-use Rattle.mol_values_types.specs.declared.known.Known.TheVariants as knowns
 
 -- ---- sets
 
@@ -71,105 +66,6 @@ module _ (ids xs : List Id) (i : ℕ) (x : Id) (within : i < length xs) (is : x 
 
   pub same-more : (new : List Id) → new ≡ insert_key id_eq ids x → AreSame new (take (i + 1) xs)
   same-more new made id = (in-longer new (list_any (id_eq x) ids) refl made id, in-new new (list_any (id_eq x) ids) refl made id)
-
--- ---- declarations
-
-some-known : (o : Option Known) (known : Known) → o ≡ Some known → is_some o ≡ true
-some-known o known is = ap is_some is
-
-listed-is : (ids : List Id) (key x id : Id) → listed ids key x ≡ Some id → Contains ids key × (x ≡ id)
-listed-is ids key x id = by (list_any (id_eq key) ids) refl where
-  by : (b : Bool) → list_any (id_eq key) ids ≡ b → cond b (Some x) None ≡ Some id → Contains ids key × (x ≡ id)
-  by true seen is = (among ids key seen, let same : x ≡ id = cc in same)
-  by false new is = absurd cc
-
-is-listed : (ids : List Id) (key id : Id) → Contains ids key → listed ids key id ≡ Some id
-is-listed ids key id stands = ap (λ b. cond b (Some id) None) (is-among ids key stands)
-
-module _ (program : Program) (ids : List Id) (known : AreKnown program ids) where
-  module _ (methods : List Id) where
-    declared-to : (x id : Id) (o : Option Known) → get program.known x ≡ o → declaration_if methods x o ≡ Some id
-        → (method : Id) × Contains methods method × IsDeclarationOf program method id
-    declared-to x id (Some (knowns.Decl method)) is picked =
-        let found = listed-is methods method x id picked in
-        (method, found.0, subst (IsDeclarationOf program method) found.1 is)
-    declared-to x id None is picked = absurd cc
-    declared-to x id (Some knowns.Class) is picked = absurd cc
-    declared-to x id (Some (knowns.Method kind)) is picked = absurd cc
-    declared-to x id (Some knowns.Field) is picked = absurd cc
-    declared-to x id (Some (knowns.Param method)) is picked = absurd cc
-
-    declared-from : (method id : Id) → Contains methods method → IsDeclarationOf program method id
-        → declaration_among program methods id ≡ Some id
-    declared-from method id stands declares = ap (declaration_if methods id) declares ∙ is-listed methods method id stands
-
-    pub declared-found : (found : List Id) → found ≡ filter_map (declaration_among program methods) ids → DeclaresAny program methods found
-    declared-found found is id = (there, back) where
-      there : Contains found id → (method : Id) × Contains methods method × IsDeclarationOf program method id
-      there stands =
-          let picked = from_some (declaration_among program methods) ids id (subst (λ xs. Contains xs id) is stands) in
-          declared-to picked.0 id (get program.known picked.0) refl picked.2
-
-      back : (method : Id) × Contains methods method × IsDeclarationOf program method id → Contains found id
-      back declared = subst (λ xs. Contains xs id) (sym is)
-          (in_some (declaration_among program methods) ids id id ((known id).1 (some-known (get program.known id) _ declared.2))
-          (declared-from declared.0 id declared.1 declared.2))
-
-  module _ (classes : List Id) where
-    -- a constructor's declaration in one of the classes
-    owned-to : (method x id : Id) (o : Option Id) → owner_at program x ≡ o → IsDeclarationOf program method x
-        → get program.known method ≡ Some (knowns.Method Constructor) → owned_if classes x o ≡ Some id
-        → (class : Id) × Contains classes class × IsConstructorOf program class id
-    owned-to method x id None is declares constructs picked = absurd cc
-    owned-to method x id (Some owner) is declares constructs picked =
-        let found = listed-is classes owner x id picked in (
-          owner,
-          found.0,
-          subst (IsConstructorOf program owner) found.1
-              (record { method = method; declares = declares; is_constructor = constructs; owned = is }),
-        )
-
-    constructed-to : (method x id : Id) (o : Option Known) → get program.known method ≡ o → IsDeclarationOf program method x
-        → constructed_if program classes x o ≡ Some id → (class : Id) × Contains classes class × IsConstructorOf program class id
-    constructed-to method x id (Some (knowns.Method Constructor)) is declares picked =
-        owned-to method x id (owner_at program x) refl declares is picked
-    constructed-to method x id None is declares picked = absurd cc
-    constructed-to method x id (Some knowns.Class) is declares picked = absurd cc
-    constructed-to method x id (Some (knowns.Method Instance)) is declares picked = absurd cc
-    constructed-to method x id (Some (knowns.Method Static)) is declares picked = absurd cc
-    constructed-to method x id (Some (knowns.Decl own)) is declares picked = absurd cc
-    constructed-to method x id (Some knowns.Field) is declares picked = absurd cc
-    constructed-to method x id (Some (knowns.Param own)) is declares picked = absurd cc
-
-    constructor-to : (x id : Id) (o : Option Known) → get program.known x ≡ o → constructor_if program classes x o ≡ Some id
-        → (class : Id) × Contains classes class × IsConstructorOf program class id
-    constructor-to x id (Some (knowns.Decl method)) is picked =
-        constructed-to method x id (get program.known method) refl is picked
-    constructor-to x id None is picked = absurd cc
-    constructor-to x id (Some knowns.Class) is picked = absurd cc
-    constructor-to x id (Some (knowns.Method kind)) is picked = absurd cc
-    constructor-to x id (Some knowns.Field) is picked = absurd cc
-    constructor-to x id (Some (knowns.Param own)) is picked = absurd cc
-
-    constructor-from : (class id : Id) → Contains classes class → IsConstructorOf program class id
-        → constructor_among program classes id ≡ Some id
-    constructor-from class id stands is =
-        ap (constructor_if program classes id) is.declares ∙ ap (constructed_if program classes id) is.is_constructor
-        ∙ ap (owned_if classes id) is.owned ∙ is-listed classes class id stands
-
-    pub constructors-found : (found : List Id) → found ≡ filter_map (constructor_among program classes) ids
-        → ConstructsAny program classes found
-    constructors-found found is id = (there, back) where
-      there : Contains found id → (class : Id) × Contains classes class × IsConstructorOf program class id
-      there stands =
-          let picked = from_some (constructor_among program classes) ids id (subst (λ xs. Contains xs id) is stands) in
-          constructor-to picked.0 id (get program.known picked.0) refl picked.2
-
-      back : (class : Id) × Contains classes class × IsConstructorOf program class id → Contains found id
-      back constructor = subst (λ xs. Contains xs id) (sym is)
-          (in_some (constructor_among program classes) ids id id
-          ((known id).1 (some-known (get program.known id) _ constructor.2.declares))
-          (constructor-from constructor.0 id constructor.1 constructor.2))
 
 -- ---- of the same methods and classes
 

@@ -21,6 +21,12 @@ module _ {T E : Type 0} (r : Result T E) (items : T → List Cell) (program : Pr
   pub arm : (known : Kept) → fault ≡ known → Rests known → Rests fault
   arm known is rests = subst Rests (sym is) rests
 
+  -- of the table itself
+  pub table-arm : (own : Program) → own ≡ program → (known : Kept) → fault ≡ known
+      → IfOk r (λ cells. RestsOn own (kept_fault known) (items cells)) → Rests fault
+  table-arm own same known is rests =
+      arm known is (subst (λ (p : Program). IfOk r (λ cells. RestsOn p (kept_fault known) (items cells))) same rests)
+
   -- of a misread reference
   pub misread-arm : (targets : List Target) (at : Cell) (number : ℕ) (target : KeptTarget) → fault ≡ kept.Misread at number target
       → HasMet program (kept_fault fault) targets
@@ -31,7 +37,7 @@ module _ {T E : Type 0} (r : Result T E) (items : T → List Cell) (program : Pr
       (λ cells known. known number (kept_target target) (subst (λ f. HasMet program (kept_fault f) targets) is met)) rests)
 
   -- of a name that is declared twice
-  pub clash-arm : (at : Cell) (name : Name) → fault ≡ kept.LocalClash at name
-      → IfOk r (λ cells. (name : Name) → RestsOn program (local_clash at name) (items cells)) → Rests fault
-  clash-arm at name is rests = arm (kept.LocalClash at name) is
-      (IfOk-weaker r _ (λ cells. RestsOn program (local_clash at name) (items cells)) (λ cells known. known name) rests)
+  pub clash-arm : (own : Program) → own ≡ program → (at : Cell) (name : Name) → fault ≡ kept.LocalClash at name
+      → IfOk r (λ cells. (name : Name) → RestsOn own (local_clash at name) (items cells)) → Rests fault
+  clash-arm own same at name is rests = table-arm own same (kept.LocalClash at name) is
+      (IfOk-weaker r _ (λ cells. RestsOn own (local_clash at name) (items cells)) (λ cells known. known name) rests)

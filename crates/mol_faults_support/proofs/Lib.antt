@@ -4,8 +4,10 @@ pub mod ByFault
 pub mod CellsOf
 pub mod Going
 pub mod InOrder
+pub mod Linked
 pub mod OfTargets
 pub mod OfValues
 pub mod Owners
+pub mod Runs
 pub mod UpTo
 pub mod UpWays

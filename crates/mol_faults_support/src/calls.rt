@@ -6,10 +6,10 @@ ghost use Rattle.mol_faults_mentions.specs.mentions.Kept.{kept_mention};
 ghost use Rattle.mol_spell_rules.specs.Support.{Calls};
 ghost use Rattle.mol_faults_support.specs.Calls.{called_by, AreConstructors};
 
-use crate::declarations::{add_some, constructors_of, set_of};
+use crate::declaration_index::DeclarationIndex;
+use crate::identities::{add_some, set_of};
 use mol_base::{Id, OutOfMemory};
 use mol_faults_mentions::{Mention, Role, default_creations, mentions_of};
-use mol_table::Table;
 use mol_values_types::Value;
 use std::alloc::Global;
 
@@ -48,16 +48,12 @@ fn called_by(mention: &Mention) -> Option<Id>
 /// The declarations of the constructors of those classes that a value creates by their default constructors.
 pub(crate) fn created_constructors(
     alloc: Global,
-    table: &Table,
+    index: &DeclarationIndex<'_>,
     value: &Value,
 ) -> Result<Vec<Id>, OutOfMemory>
-    ensures { IfOk result (λ found. AreConstructors table.now value.now found.items) }
+    ensures { IfOk result (λ found. AreConstructors index.now value.now found.items) }
 {
     let created = default_creations(alloc, value)?;
-    let classes = created.as_slice();
-    if classes.is_empty() {
-        return Ok(Vec::new(alloc));
-    }
-    let among = set_of(alloc, classes)?;
-    constructors_of(alloc, table, &among)
+    let classes = set_of(alloc, created.as_slice())?;
+    index.constructors_of(alloc, classes.as_slice())
 }

@@ -4,9 +4,12 @@
 mod addresses;
 mod calls;
 mod clashes;
-mod declarations;
+mod declaration_index;
 mod headers;
+mod identities;
 mod life;
+mod link;
+mod links;
 mod methods;
 mod misread;
 mod missing;
@@ -15,4 +18,5 @@ mod slots;
 mod supports;
 mod ways;
 
+pub use declaration_index::DeclarationIndex;
 pub use supports::support;

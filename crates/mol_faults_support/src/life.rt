@@ -7,7 +7,7 @@ ghost use Rattle.mol_faults_support.specs.Rests.{AreLives};
 ghost use Rattle.mol_values_types.specs.Slots.{has_slot};
 ghost use Rattle.mol_values_types.specs.declared.cell.Slot.TheVariants as slots;
 
-use crate::declarations::{declarations_of, set_of};
+use crate::declaration_index::DeclarationIndex;
 use crate::slots::{add_cell, add_lives};
 use mol_base::{Id, OutOfMemory};
 use mol_table::Table;
@@ -15,14 +15,17 @@ use mol_values_types::{Cell, Known, Slot};
 use std::alloc::Global;
 
 /// The cells that say whether these live; those of a method are those of its declarations.
-pub(crate) fn lives(alloc: Global, table: &Table, ids: &[Id]) -> Result<Vec<Cell>, OutOfMemory>
-    ensures { IfOk result (λ cells. AreLives table.now ids.now cells.items) }
+pub(crate) fn lives(
+    alloc: Global,
+    index: &DeclarationIndex<'_>,
+    ids: &[Id],
+) -> Result<Vec<Cell>, OutOfMemory>
+    ensures { IfOk result (λ cells. AreLives index.now ids.now cells.items) }
 {
-    let methods = set_of(alloc, ids)?;
-    let found = declarations_of(alloc, table, &methods)?;
+    let found = index.declarations_of(alloc, ids)?;
     let declarations = found.as_slice();
     let mut cells = Vec::new(alloc);
-    add_own_lives(&mut cells, table, ids)?;
+    add_own_lives(&mut cells, index.table(), ids)?;
     add_lives(&mut cells, declarations)?;
     Ok(cells)
 }

@@ -7,8 +7,9 @@ ghost use Rattle.mol_faults_rules.specs.Met.{kept_met};
 ghost use Rattle.mol_faults_support.specs.Met.{entity_of, method_for, HasMet};
 ghost use Rattle.mol_faults_support.specs.Rests.{Adds, IsOfTargets, RestsOn};
 
-use crate::declarations::{add_some, declarations_of, set_of};
+use crate::declaration_index::DeclarationIndex;
 use crate::headers::add_headers;
+use crate::identities::{add_some, set_of};
 use crate::life::lives;
 use crate::slots::add_cell;
 use mol_base::{Id, OutOfMemory};
@@ -21,46 +22,50 @@ use std::alloc::Global;
 /// what it is that it has to do with.
 pub(crate) fn misread(
     alloc: Global,
-    table: &Table,
+    index: &DeclarationIndex<'_>,
     at: &Cell,
     met: &[Met],
 ) -> Result<Vec<Cell>, OutOfMemory>
     ensures { IfOk result (λ cells. (number : ℕ) (target : FaultTarget)
-        → HasMet table.now (misread at.now number target) (map kept_met met.now)
-        → RestsOn table.now (misread at.now number target) cells.items) }
+        → HasMet index.now (misread at.now number target) (map kept_met met.now)
+        → RestsOn index.now (misread at.now number target) cells.items) }
 {
-    let mut cells = lives(alloc, table, &[at.id])?;
+    let mut cells = lives(alloc, index, &[at.id])?;
     add_cell(&mut cells, &at.id, at.slot)?;
-    add_targets(alloc, table, &mut cells, met)?;
+    add_targets(alloc, index, &mut cells, met)?;
     Ok(cells)
 }
 
 /// Adds the cells that say where that is and what it is that these targets have to do with.
 fn add_targets(
     alloc: Global,
-    table: &Table,
+    index: &DeclarationIndex<'_>,
     cells: &mut Vec<Cell>,
     met: &[Met],
 ) -> Result<(), OutOfMemory>
-    ensures { OnOk result (Adds cells.old.items cells.new.items (IsOfTargets table.now (map kept_met met.now))) }
+    ensures { OnOk result (Adds cells.old.items cells.new.items (IsOfTargets index.now (map kept_met met.now))) }
 {
+    let table = index.table();
     let found = entities_of(alloc, table, met)?;
     let entities = found.as_slice();
-    let declared = declared_of(alloc, table, met)?;
+    let declared = declared_of(alloc, index, met)?;
     let declarations = declared.as_slice();
     add_headers(cells, table, entities)?;
     add_headers(cells, table, declarations)
 }
 
 /// The declarations of the methods of these targets.
-fn declared_of(alloc: Global, table: &Table, met: &[Met]) -> Result<Vec<Id>, OutOfMemory>
-    ensures { IfOk result (λ found. DeclaresAny table.now
-        (filter_map (λ target. method_for table.now (kept_met target)) met.now) found.items) }
+fn declared_of(
+    alloc: Global,
+    index: &DeclarationIndex<'_>,
+    met: &[Met],
+) -> Result<Vec<Id>, OutOfMemory>
+    ensures { IfOk result (λ found. DeclaresAny index.now
+        (filter_map (λ target. method_for index.now (kept_met target)) met.now) found.items) }
 {
-    let found = methods_for(alloc, table, met)?;
-    let methods = found.as_slice();
-    let among = set_of(alloc, methods)?;
-    declarations_of(alloc, table, &among)
+    let found = methods_for(alloc, index.table(), met)?;
+    let methods = set_of(alloc, found.as_slice())?;
+    index.declarations_of(alloc, methods.as_slice())
 }
 
 /// The entities of these targets; of a parameter its method.

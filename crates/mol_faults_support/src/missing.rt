@@ -7,6 +7,7 @@ ghost use Rattle.mol_faults_support.specs.Rests.{Adds, IsOfCell, IsOfValue, Rest
 ghost use Rattle.mol_table_rules.specs.Program.{method_of_param};
 
 use crate::calls::{called_methods, created_constructors};
+use crate::declaration_index::DeclarationIndex;
 use crate::life::lives;
 use crate::slots::{add_cell, add_lives, add_params};
 use mol_base::{Id, OutOfMemory};
@@ -18,15 +19,15 @@ use std::alloc::Global;
 /// its value refers once it is tidied.
 pub(crate) fn missing(
     alloc: Global,
-    table: &Table,
+    index: &DeclarationIndex<'_>,
     at: &Cell,
     target: &Id,
 ) -> Result<Vec<Cell>, OutOfMemory>
-    ensures { IfOk result (λ cells. RestsOn table.now (missing at.now target.now) cells.items) }
+    ensures { IfOk result (λ cells. RestsOn index.now (missing at.now target.now) cells.items) }
 {
-    let mut cells = lives(alloc, table, &[at.id, *target])?;
-    add_beside(&mut cells, table, at, target)?;
-    add_of_cell(alloc, table, &mut cells, at)?;
+    let mut cells = lives(alloc, index, &[at.id, *target])?;
+    add_beside(&mut cells, index.table(), at, target)?;
+    add_of_cell(alloc, index, &mut cells, at)?;
     Ok(cells)
 }
 
@@ -69,14 +70,15 @@ fn add_params_beside(cells: &mut Vec<Cell>, table: &Table, id: &Id) -> Result<()
 /// Adds what the value of a cell asks for, where it has one.
 fn add_of_cell(
     alloc: Global,
-    table: &Table,
+    index: &DeclarationIndex<'_>,
     cells: &mut Vec<Cell>,
     at: &Cell,
 ) -> Result<(), OutOfMemory>
-    ensures { OnOk result (Adds cells.old.items cells.new.items (IsOfCell table.now at.now)) }
+    ensures { OnOk result (Adds cells.old.items cells.new.items (IsOfCell index.now at.now)) }
 {
+    let table = index.table();
     match table.get(at) {
-        Some(value) => add_of_value(alloc, table, cells, value),
+        Some(value) => add_of_value(alloc, index, cells, value),
         None => Ok(()),
     }
 }
@@ -84,15 +86,15 @@ fn add_of_cell(
 /// Adds the parameters of the methods that a value calls, and whether the constructors live for which it may ask.
 fn add_of_value(
     alloc: Global,
-    table: &Table,
+    index: &DeclarationIndex<'_>,
     cells: &mut Vec<Cell>,
     value: &Value,
 ) -> Result<(), OutOfMemory>
-    ensures { OnOk result (Adds cells.old.items cells.new.items (IsOfValue table.now value.now)) }
+    ensures { OnOk result (Adds cells.old.items cells.new.items (IsOfValue index.now value.now)) }
 {
     let called = called_methods(alloc, value)?;
     let methods = called.as_slice();
-    let created = created_constructors(alloc, table, value)?;
+    let created = created_constructors(alloc, index, value)?;
     let constructors = created.as_slice();
     add_params(cells, methods)?;
     add_lives(cells, constructors)

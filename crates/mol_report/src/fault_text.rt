@@ -25,8 +25,8 @@ pub fn fault_line(alloc: Global, base: &Table, fault: &Fault) -> Result<List<u8>
     Ok(List::from_vec(text))
 }
 
-/// Appends a fault.
-fn push_fault(
+/// Appends the text of a fault, as `fault_line` makes it, to that of a report. `Err` is want of memory; then a part may be appended.
+pub fn push_fault(
     alloc: Global,
     out: &mut Vec<u8>,
     labels: &Labels<'_>,

@@ -16,9 +16,9 @@ use mol_values_types::{Cell, Known, Param};
 use std::alloc::Global;
 use std::marker::Model;
 
-/// The addresses of the base. Contracts see its program.
+/// The addresses of a base, made ready once for many lines. Contracts see the program of the base.
 #[derive(Drop)]
-pub(crate) struct Labels<'a> {
+pub struct Labels<'a> {
     base: &'a Table,
     tops: Topmost<'a>,
 }
@@ -42,8 +42,8 @@ impl<'a> Model for Labels<'a> {
 }
 
 impl<'a> Labels<'a> {
-    /// The addresses of a base.
-    pub(crate) fn new(alloc: Global, base: &'a Table) -> Result<Labels<'a>, OutOfMemory>
+    /// The addresses of a base. The time is near-linear in its identities. `Err` is want of memory.
+    pub fn new(alloc: Global, base: &'a Table) -> Result<Labels<'a>, OutOfMemory>
         ensures { IfOk result (λ labels. labels ≡ base.now) }
     {
         Ok(Labels {
@@ -59,8 +59,9 @@ impl<'a> Labels<'a> {
         self.base
     }
 
-    /// Appends an identity with its label, a dot and the word of a slot.
-    pub(crate) fn push_cell(
+    /// Appends an identity as `push_id` does, a dot and the word of a slot: `:5[shop.Cart.total/0].body`. `Err` is want of memory; then a
+    /// part may be appended.
+    pub fn push_cell(
         &self,
         alloc: Global,
         out: &mut Vec<u8>,
@@ -74,8 +75,9 @@ impl<'a> Labels<'a> {
         Ok(())
     }
 
-    /// Appends an identity and, in brackets, its label.
-    pub(crate) fn push_id(
+    /// Appends an identity and, in brackets, its address in the base, or `added` where it has none there: `:1[shop.Cart]`. ASCII but for
+    /// names. `Err` is want of memory; then a part may be appended.
+    pub fn push_id(
         &self,
         alloc: Global,
         out: &mut Vec<u8>,

@@ -7,5 +7,6 @@ mod ids;
 mod labels;
 mod slots;
 
-pub use fault_text::fault_line;
+pub use fault_text::{fault_line, push_fault};
 pub use ids::id_lines;
+pub use labels::Labels;

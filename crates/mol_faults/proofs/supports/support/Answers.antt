@@ -1,9 +1,10 @@
-use Rattle.std.proofs.Common.{◌∙◌, map, sym, ap, subst}
+use Rattle.std.proofs.Common.{subst}
+use Rattle.std.specs.Prelude.{IfOk}
 use Rattle.mol_faults_rules.specs.Kept.{kept_fault}
-use Rattle.mol_faults_rules.specs.Met.{kept_met}
-use Rattle.mol_faults_support.specs.Met.{HasMet}
 use Rattle.mol_faults.proofs.supports.support.Goals as goal
+use Rattle.mol_spell_rules.specs.Support.{IsSupport}
+use Rattle.mol_table_rules.specs.Program.{Program}
 
-pub support-requires : goal.support-requires
-support-requires c = subst (λ met. HasMet c.args.table.now (kept_fault c.args.fault.now) (map kept_met met)) (sym c.as_slice.ensures.value)
-    c.in_ok-met.ensures
+pub returns : goal.returns
+returns c =
+    subst (λ (p : Program). IfOk c.of.result (IsSupport p (kept_fault c.args.fault.now))) c.in_ok-supports.ensures c.of.ensures

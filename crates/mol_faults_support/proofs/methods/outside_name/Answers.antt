@@ -8,7 +8,7 @@ use Rattle.mol_values_types.specs.declared.cell.Slot.TheVariants as slots
 
 pub returns : goal.returns
 returns c =
-    let program = c.args.table.now in
+    let program = c.args.index.now in
     let method = c.args.method.now in
     let declarations = c.as_slice-declarations.result.now in
     outside-rests program method declarations

@@ -12,7 +12,7 @@ use Rattle.mol_values_types.specs.declared.cell.Slot.TheVariants as slots
 
 pub returns : goal.returns
 returns c =
-    let program = c.args.table.now in
+    let program = c.args.index.now in
     let value = c.args.value.now in
     let methods = c.as_slice-methods.result.now in
     let constructors = c.as_slice-constructors.result.now in

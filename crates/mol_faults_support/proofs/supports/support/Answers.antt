@@ -9,7 +9,7 @@ in_order-cells-requires c = same-cell
 
 pub returns : goal.returns
 returns c =
-    let program = c.args.table.now in
+    let program = c.args.index.now in
     let fault = kept_fault c.args.fault.now in
     subst (IsSupport program fault) (sym c.from_vec.ensures)
     (support-is program fault c.in_ok-found.found.items c.in_order-cells.result.items c.in_ok-found.ensures
