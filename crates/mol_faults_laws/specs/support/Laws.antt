@@ -1,0 +1,4 @@
+-- x
+use Rattle.std.specs.Prelude.{Bool}
+abbrev pub Nothing : Type 0
+Nothing = Bool
