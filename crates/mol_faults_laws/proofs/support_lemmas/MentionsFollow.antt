@@ -156,7 +156,7 @@ module _ (here there : Id → List Param) (near far : Id → Option Id) (P : Men
       (subst (Each P) (sym (argument-mentions (argument_for old param))) (value-follows args param agree one))
       (arguments-follow params args agree (back P (argument_mentions (argument_for new param)) rest each))
 
-  abbrev called_by : (Id → List Param) → Id → List Argument → List Argument
+  abbrev pub called_by : (Id → List Param) → Id → List Argument → List Argument
   called_by present method args = arguments_for (present method) args
 
   -- a call of a method, by its arguments
@@ -169,7 +169,7 @@ module _ (here there : Id → List Param) (near far : Id → Option Id) (P : Men
   }
 
   -- the name of the method, and then its arguments
-  called : {role : Role} (method : Id) → IsCalled role → {said new old : List Mention} → (here method ≡ there method → Follows said new old)
+  pub called : {role : Role} (method : Id) → IsCalled role → {said new old : List Mention} → (here method ≡ there method → Follows said new old)
       → Follows (record { role = role; id = method } ∷ said) (record { role = role; id = method } ∷ new)
       (record { role = role; id = method } ∷ old)
   called method is after = record { holds = λ agree each. (each.0, (after (agree.0 is)).holds agree.1 each.1) }
