@@ -1,17 +1,16 @@
 -- Equal addresses: where both hold the same in the cells of an address, the entity has it in both, and lives in both.
-use Rattle.std.proofs.Common.{◌≡◌, List, [], ◌∷◌, Option, None, Some, length, Contains, refl, sym, ap, ◌∙◌, arith}
+use Rattle.std.proofs.Common.{◌≡◌, Option, None, Some, length, refl, sym, ap, ◌∙◌, arith}
 use Rattle.std.specs.FinMap.{get}
 use Rattle.mol_base.specs.declared.ident.Id.{Id}
-use Rattle.mol_faults_laws.proofs.support_lemmas.Held.{Held, IsMethod, known-as, known-held, living-held, method-known, never-none}
+use Rattle.mol_faults_laws.proofs.support_lemmas.Held.{Held, IsMethod, known-as, living-held, method-known, never-none}
 use Rattle.mol_faults_laws.specs.support.Laws.{HoldSupport, IsPart}
 use Rattle.mol_spell_rules.specs.FaultList.{same_address}
 use Rattle.mol_spell_rules.specs.Support.{AddressCell, first_address, of_class, of_declaration, of_field, of_its_method, second_address}
 use Rattle.mol_table_rules.specs.Faults.{Address, SameAddress, address, address_as, class_address, constructor_address, decl_address, field_address, method_address}
 use Rattle.mol_table_rules.specs.Life.{lives, lives_as}
-use Rattle.mol_table_rules.specs.Program.{Program, cell, name_at, name_in, owner_at, owner_in, package_at, package_in, params_at, params_in}
+use Rattle.mol_table_rules.specs.Program.{Program, cell, name_in, owner_in, package_in, params_in}
 use Rattle.mol_table_rules.specs.Rules.{IsProgram}
 use Rattle.mol_values_types.specs.declared.cell.Cell.{Cell}
-use Rattle.mol_values_types.specs.declared.cell.Slot.{Slot}
 use Rattle.mol_values_types.specs.declared.cell.Slot.TheVariants as slots
 use Rattle.mol_values_types.specs.declared.kind.MethodKind.{MethodKind}
 use Rattle.mol_values_types.specs.declared.kind.MethodKind.TheVariants.{Instance, Static, Constructor}

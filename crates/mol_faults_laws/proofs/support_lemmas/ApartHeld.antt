@@ -1,6 +1,6 @@
 -- Methods apart: a declaration that is topmost in the part is so in the whole. A way of the part is one in the whole, since a class that
 -- both name above what lives in the whole lives there where it lives in the part.
-use Rattle.std.proofs.Common.{◌≡◌, Bool, true, false, ◌&&◌, ◌||◌, not, List, [], ◌∷◌, ◌++◌, suc, Option, None, Some, Contains, refl, sym, ap, subst, ◌∙◌, arith, true≢false}
+use Rattle.std.proofs.Common.{◌≡◌, Bool, true, false, ◌&&◌, ◌||◌, not, List, [], ◌∷◌, ◌++◌, suc, Option, None, Some, Contains, refl, sym, ap, ◌∙◌, arith, true≢false}
 use Rattle.std.proofs.lemmas.Bool.{and_parts}
 use Rattle.std.specs.FinMap.{entries, get, len}
 use Rattle.std.specs.List.{list_all}
@@ -8,21 +8,20 @@ use Rattle.std.specs.Option.{option_map_or}
 use Rattle.mol_base.specs.declared.ident.Id.{Id}
 use Rattle.mol_faults_laws.proofs.support_lemmas.Climbs.{climbs, on-stands, parted, stands-on, way-begins}
 use Rattle.mol_faults_laws.proofs.support_lemmas.Declared.{all-known, declared-passes, has-living, known-all, living-method, passes-declared}
-use Rattle.mol_faults_laws.proofs.support_lemmas.Held.{Held, class-known, class-lives, decl-lives, known-as, living-held, never-none}
-use Rattle.mol_faults_laws.proofs.support_lemmas.Named.{a_class_of, owner-named, parent-named, upper, upper-of, upper-parts}
+use Rattle.mol_faults_laws.proofs.support_lemmas.Held.{Held, class-known, class-lives, decl-lives, known-as, living-held}
+use Rattle.mol_faults_laws.proofs.support_lemmas.Named.{owner-named, parent-named, upper, upper-of, upper-parts}
 use Rattle.mol_faults_laws.proofs.support_lemmas.WaysClosed.{way-closed}
 use Rattle.mol_faults_laws.specs.support.Laws.{HoldSupport, IsPart, its_owner, its_superclass}
 use Rattle.mol_spell_rules.specs.Clean.{Clean}
 use Rattle.mol_spell_rules.specs.FaultList.{apart}
-use Rattle.mol_spell_rules.specs.Support.{IsDeclarationOf, above_apart, declaration_apart}
+use Rattle.mol_spell_rules.specs.Support.{above_apart, declaration_apart}
 use Rattle.mol_table_rules.specs.Ancestors.{is_on_way, way}
-use Rattle.mol_table_rules.specs.Faults.{Apart, Missing, is_above, is_above_living, is_topmost}
-use Rattle.mol_table_rules.specs.Life.{is_living_decl, is_living_entity, lives, lives_as, lives_method}
+use Rattle.mol_table_rules.specs.Faults.{Apart, is_above, is_above_living, is_topmost}
+use Rattle.mol_table_rules.specs.Life.{is_living_decl, is_living_entity, lives, lives_as}
 use Rattle.mol_table_rules.specs.Mentions.{a_class}
-use Rattle.mol_table_rules.specs.Program.{Program, cell, living_at, owner_at, owner_in, parent_at, parent_in, value_at}
+use Rattle.mol_table_rules.specs.Program.{Program, cell, living_at, owner_at, owner_in, parent_in, value_at}
 use Rattle.mol_table_rules.specs.Rules.{IsProgram}
 use Rattle.mol_values_types.specs.declared.cell.Cell.{Cell}
-use Rattle.mol_values_types.specs.declared.cell.Slot.{Slot}
 use Rattle.mol_values_types.specs.declared.cell.Slot.TheVariants as slots
 use Rattle.mol_values_types.specs.declared.known.Known.{Known}
 use Rattle.mol_values_types.specs.declared.known.Known.TheVariants as knowns
@@ -95,9 +94,11 @@ module _ (whole part : Program) (rules : IsProgram whole) (own : IsProgram part)
           let named = parent-named (value_at part class slots.Super) next of.0 in
           let known = class-known part own (cell class slots.Super) named.0 next named.1 named.2 in
           let next_lives : Lives next = parts.above (cell class slots.Super) named.0 next its_superclass class_lives (held ∙ named.1) named.1
-          named.2 (class-lives part next known ∙ of.1) in
-          (upper-of whole class next (ap parent_in held ∙ of.0)
-              (sym (class-lives whole next (parts.known next knowns.Class known)) ∙ next_lives), next_lives)
+          named.2 (class-lives part next known ∙ of.1) in (
+            upper-of whole class next (ap parent_in held ∙ of.0)
+                (sym (class-lives whole next (parts.known next knowns.Class known)) ∙ next_lives),
+            next_lives,
+          )
 
       way-back : (above : Id) → is_on_way part owner above ≡ true → is_on_way whole owner above ≡ true
       way-back above on = stands-on whole owner above

@@ -1,5 +1,5 @@
 -- The constructor that a creation by default constructor becomes one of: it lives, and a declaration of it stands in the class.
-use Rattle.std.proofs.Common.{◌≡◌, Bool, true, false, ◌&&◌, List, Option, None, Some, refl, sym, ap, subst, ◌∙◌, true≢false}
+use Rattle.std.proofs.Common.{◌≡◌, true, false, Option, None, Some, refl, sym, ap, ◌∙◌, true≢false}
 use Rattle.std.proofs.lemmas.Bool.{and_parts}
 use Rattle.std.specs.FinMap.{entries, get, keys}
 use Rattle.std.specs.List.{list_any}
@@ -8,7 +8,7 @@ use Rattle.mol_base.specs.declared.ident.Id.{Id}
 use Rattle.mol_faults_laws.proofs.support_lemmas.Declared.{has-living, passes-declared, some-known}
 use Rattle.mol_table_rules.proofs.Living.{id_tied}
 use Rattle.mol_table_rules.proofs.TidyRules.{found-passes}
-use Rattle.mol_table_rules.specs.Life.{is_decl_of, is_living_decl, lives, lives_as, lives_method}
+use Rattle.mol_table_rules.specs.Life.{is_living_decl, lives, lives_as}
 use Rattle.mol_table_rules.specs.Program.{Program, living_at, owner_at, params_at, same_id}
 use Rattle.mol_table_rules.specs.Tidy.{bare_constructor, is_bare, is_constructor, is_living_decl_in, is_plain}
 use Rattle.mol_values_types.specs.TokenForms.{is_empty}

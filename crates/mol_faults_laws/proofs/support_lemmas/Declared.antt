@@ -1,8 +1,8 @@
 -- What is known, one by one; and a method lives where a known declaration of it does.
-use Rattle.std.proofs.Common.{◌≡◌, ◌⊎◌, inl, inr, Bool, true, false, ◌&&◌, ◌||◌, cond, List, [], ◌∷◌, Option, Some, Contains, refl, sym, ap, subst, ◌∙◌, true≢false, Ordering, Less, Equal, Greater}
+use Rattle.std.proofs.Common.{◌≡◌, ◌⊎◌, inl, inr, Bool, true, false, ◌&&◌, ◌||◌, cond, List, [], ◌∷◌, Some, Contains, refl, sym, ap, subst, ◌∙◌, true≢false}
 use Rattle.std.proofs.lemmas.List.Elements.{All-contains, All-from_recursion}
 use Rattle.std.specs.FinMap.{entries, find, get, get-entries}
-use Rattle.std.specs.List.{AllByRecursion, list_all, list_any}
+use Rattle.std.specs.List.{list_all, list_any}
 use Rattle.jav_names.proofs.Lists.{stands_first, stands_later, stands_nowhere, stands_where}
 use Rattle.mol_base.specs.Order.{id_cmp, id_cmp-IsAntisymmetric, id_cmp-total}
 use Rattle.mol_base.specs.declared.ident.Id.{Id}

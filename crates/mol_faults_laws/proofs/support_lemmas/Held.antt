@@ -1,13 +1,13 @@
 -- What two programs know and say of an entity where they hold the same in its cells.
-use Rattle.std.proofs.Common.{◌≡◌, ◌⊎◌, inl, inr, Bool, true, false, ◌&&◌, List, [], ◌∷◌, Option, None, Some, is_some, Contains, refl, sym, ap, subst, ◌∙◌, true≢false, length, arith}
+use Rattle.std.proofs.Common.{◌≡◌, ◌⊎◌, inl, inr, Bool, true, false, ◌&&◌, List, [], ◌∷◌, Option, None, Some, is_some, Contains, refl, sym, ap, ◌∙◌, true≢false}
 use Rattle.std.specs.FinMap.{get}
 use Rattle.std.specs.List.{list_all}
-use Rattle.jav_names.proofs.Lists.{stands_first, stands_nowhere, stands_where}
+use Rattle.jav_names.proofs.Lists.{stands_nowhere, stands_where}
 use Rattle.mol_base.specs.declared.ident.Id.{Id}
 use Rattle.mol_faults_laws.specs.support.Laws.{IsPart}
 use Rattle.mol_table_rules.specs.Life.{entity_in, is_living_entity, lives, lives_as}
-use Rattle.mol_table_rules.specs.Mentions.{Role, Mention, a_class, a_method, mentions}
-use Rattle.mol_table_rules.specs.Program.{Program, cell, is_yes, living_at, value_at}
+use Rattle.mol_table_rules.specs.Mentions.{Mention, a_class, a_method, mentions}
+use Rattle.mol_table_rules.specs.Program.{Program, cell, is_yes, living_at}
 use Rattle.mol_table_rules.specs.Rules.{IsProgram, fills}
 use Rattle.mol_values_types.specs.Slots.{has_slot}
 use Rattle.mol_values_types.specs.declared.cell.Cell.{Cell}

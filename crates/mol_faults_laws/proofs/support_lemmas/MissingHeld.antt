@@ -2,20 +2,20 @@
 -- missing then.
 use Rattle.std.proofs.Common.{◌≡◌, ◌≢◌, ◌⊎◌, inl, inr, Bool, true, false, ◌&&◌, List, [], ◌∷◌, Option, None, Some, is_some, option_map, Contains, refl, sym, ap, subst, ◌∙◌, arith, true≢false}
 use Rattle.std.specs.FinMap.{get}
-use Rattle.std.specs.List.{AllByRecursion, list_any}
+use Rattle.std.specs.List.{list_any}
 use Rattle.std.specs.Option.{option_map_or}
 use Rattle.jav_names.proofs.Lists.{stands_first, stands_later, stands_nowhere, stands_where}
 use Rattle.mol_base.specs.declared.ident.Id.{Id}
 use Rattle.mol_faults_laws.proofs.support_lemmas.CreationsMade.{IsMadeBy, made-by}
 use Rattle.mol_faults_laws.proofs.support_lemmas.Declared.{has-living, living-method}
-use Rattle.mol_faults_laws.proofs.support_lemmas.Held.{Held, class-filled, decl-lives, fills-mentioned, known-as, known-held, living-held, never-none}
-use Rattle.mol_faults_laws.proofs.support_lemmas.MentionsFollow.{Agrees, Each, IsCalled}
+use Rattle.mol_faults_laws.proofs.support_lemmas.Held.{Held, decl-lives, fills-mentioned, known-held, living-held}
+use Rattle.mol_faults_laws.proofs.support_lemmas.MentionsFollow.{Each, IsCalled}
 use Rattle.mol_faults_laws.proofs.support_lemmas.Named.{a_class_of, owner-named, param-named}
 use Rattle.mol_faults_laws.proofs.support_lemmas.ValuesFollow.{value-followed}
 use Rattle.mol_faults_laws.specs.support.Laws.{HoldSupport, IsPart}
 use Rattle.mol_spell_rules.specs.Clean.{Clean}
 use Rattle.mol_spell_rules.specs.FaultList.{missing}
-use Rattle.mol_spell_rules.specs.Support.{LifeCell, called_in, declared_life, life_of_missing, missing_in, own_life, params_of_missing}
+use Rattle.mol_spell_rules.specs.Support.{called_in, declared_life, life_of_missing, missing_in, own_life, params_of_missing}
 use Rattle.mol_table_rules.proofs.Living.{id_tied}
 use Rattle.mol_table_rules.proofs.TidyRules.{tidied-at, tidy-IsProgram}
 use Rattle.mol_table_rules.specs.Faults.{Missing, is_present, is_there, method_of}
@@ -34,7 +34,6 @@ use Rattle.mol_values_types.specs.declared.iexpr.IExpr.TheVariants as exprs
 use Rattle.mol_values_types.specs.declared.known.Known.{Known}
 use Rattle.mol_values_types.specs.declared.known.Known.TheVariants as knowns
 use Rattle.mol_values_types.specs.declared.param.Param.{Param}
-use Rattle.mol_values_types.specs.declared.value.Value.{Value}
 use Rattle.mol_values_types.specs.declared.value.Value.TheVariants as values
 
 -- ---- lists of mentions
@@ -149,10 +148,10 @@ module _ (whole part : Program) (rules : IsProgram whole) (own : IsProgram part)
   present-back is = by (method_of at.id (get whole.known at.id))
       (sym (ap (λ o. option_map_or (λ method. lists part method target) (method_of at.id o) false) same-known) ∙ is)
     where
-    by : (o : Option Id) → option_map_or (λ method. lists part method target) o false ≡ true
-        → option_map_or (λ method. lists whole method target) o false ≡ true
-    by None is = is
-    by (Some method) is = listed-back method is
+      by : (o : Option Id) → option_map_or (λ method. lists part method target) o false ≡ true
+          → option_map_or (λ method. lists whole method target) o false ≡ true
+      by None is = is
+      by (Some method) is = listed-back method is
 
   there-back : (role : Role) → fills at.id role (get whole.known target) ≡ true → is_there part at.id role target ≡ true
       → is_there whole at.id role target ≡ true

@@ -1,5 +1,5 @@
 -- What single cells name: a superclass, an owner, parameters. What a cell names it mentions.
-use Rattle.std.proofs.Common.{◌≡◌, ◌⊎◌, inl, inr, Bool, true, false, ◌||◌, List, [], ◌∷◌, Option, None, Some, Contains, refl, sym, ap, subst, ◌∙◌, arith, true≢false, if◌then◌else◌}
+use Rattle.std.proofs.Common.{◌≡◌, Bool, true, false, ◌||◌, List, [], ◌∷◌, Option, None, Some, Contains, refl, sym, ap, subst, ◌∙◌, true≢false, if◌then◌else◌}
 use Rattle.std.specs.List.{list_any}
 use Rattle.jav_names.proofs.Lists.{stands_first}
 use Rattle.mol_base.specs.declared.ident.Id.{Id}

@@ -1,7 +1,7 @@
 -- Names of methods of `Object`, locals that clash, and packages that are classes: where both programs hold the same in the cells that
 -- such a fault rests on, both have it.
-use Rattle.std.proofs.Common.{◌≡◌, ◌⊎◌, inl, inr, Bool, true, false, ◌&&◌, List, [], ◌∷◌, map, Option, None, Some, length, Contains, refl, sym, ap, subst, ◌∙◌, arith, true≢false}
-use Rattle.std.specs.FinMap.{entries, get}
+use Rattle.std.proofs.Common.{◌≡◌, ◌⊎◌, inl, inr, Bool, true, false, ◌&&◌, [], ◌∷◌, map, Option, None, Some, length, Contains, refl, sym, ap, subst, ◌∙◌, arith, true≢false}
+use Rattle.std.specs.FinMap.{get}
 use Rattle.mol_base.specs.declared.ident.Id.{Id}
 use Rattle.mol_faults_laws.proofs.support_lemmas.Held.{Held, known-as, living-held}
 use Rattle.mol_faults_laws.proofs.support_lemmas.Declared.{has-living, living-method}
@@ -9,13 +9,12 @@ use Rattle.mol_faults_laws.specs.support.Laws.{HoldSupport, IsPart}
 use Rattle.mol_spell_rules.specs.FaultList.{local_clash, outside_name, package_is_class}
 use Rattle.mol_spell_rules.specs.LocalClashes.{IsRepeated, clashes_in}
 use Rattle.mol_spell_rules.specs.NameFaults.{ClashesInBody, LocalClash, OutsideName, PackageIsClass, param_names}
-use Rattle.mol_spell_rules.specs.Support.{IsOneOf, clash_in, declaration_of_clash, declaration_outside, name_outside, of_inside, of_package, params_of_clash}
+use Rattle.mol_spell_rules.specs.Support.{clash_in, declaration_of_clash, declaration_outside, name_outside, of_inside, of_package, params_of_clash}
 use Rattle.mol_spell_rules.specs.Writers.{full_of, program_class}
-use Rattle.mol_table_rules.specs.Life.{lives_method}
-use Rattle.mol_table_rules.specs.Program.{Program, cell, living_at, name_in, package_at, package_in, params_at, params_in, name_at}
+use Rattle.mol_table_rules.specs.Program.{Program, cell, living_at, name_in, package_at, package_in, params_in}
 use Rattle.mol_table_rules.specs.Renumber.{is_class, is_living_class}
 use Rattle.mol_table_rules.specs.Rules.{IsProgram}
-use Rattle.jav_names.specs.DottedNames.{Name, Names, joined}
+use Rattle.jav_names.specs.DottedNames.{Name, joined}
 use Rattle.jav_names.specs.Members.{is_object_method}
 use Rattle.mol_resolve_rules.specs.ResolveFaults.{BeginsWith}
 use Rattle.mol_values_types.specs.declared.cell.Cell.{Cell}

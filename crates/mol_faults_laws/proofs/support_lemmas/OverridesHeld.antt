@@ -1,6 +1,6 @@
 -- Overriding by chance: the way from the lower owner to the upper one is one in both programs.
-use Rattle.std.proofs.Common.{◌≡◌, ◌⊎◌, inl, inr, List, [], ◌∷◌, ◌++◌, suc, Option, Some, length, Contains, refl, sym, ap, ◌∙◌, arith}
-use Rattle.std.specs.FinMap.{get, len}
+use Rattle.std.proofs.Common.{◌≡◌, ◌⊎◌, inl, inr, List, [], ◌∷◌, ◌++◌, suc, Some, length, Contains, refl, sym, ap, ◌∙◌, arith}
+use Rattle.std.specs.FinMap.{len}
 use Rattle.mol_base.specs.declared.ident.Id.{Id}
 use Rattle.mol_faults_laws.proofs.support_lemmas.Climbs.{climbs, on-stands, parted, stands-on, way-begins}
 use Rattle.mol_faults_laws.proofs.support_lemmas.Held.{Held, class-known, class-stays, known-as, living-held}
@@ -9,10 +9,10 @@ use Rattle.mol_faults_laws.proofs.support_lemmas.WaysClosed.{way-closed}
 use Rattle.mol_faults_laws.specs.support.Laws.{HoldSupport, IsPart}
 use Rattle.mol_resolve_rules.proofs.Stands.{in_front}
 use Rattle.mol_spell_rules.specs.FaultList.{false_override}
-use Rattle.mol_spell_rules.specs.NameFaults.{AreAlike, FalseOverride, IsLivingDeclaration, IsProperAncestor}
-use Rattle.mol_spell_rules.specs.Support.{AddressCell, IsBetween, IsDeclarationOf, between_owners, first_overrides, of_declaration, of_its_method, second_overrides}
+use Rattle.mol_spell_rules.specs.NameFaults.{FalseOverride, IsLivingDeclaration, IsProperAncestor}
+use Rattle.mol_spell_rules.specs.Support.{AddressCell, IsBetween, between_owners, first_overrides, of_declaration, of_its_method, second_overrides}
 use Rattle.mol_table_rules.specs.Ancestors.{way}
-use Rattle.mol_table_rules.specs.Program.{Program, cell, name_at, name_in, owner_at, owner_in, params_at, params_in, parent_at, parent_in, value_at}
+use Rattle.mol_table_rules.specs.Program.{Program, cell, name_at, name_in, owner_in, params_at, params_in, parent_at, parent_in, value_at}
 use Rattle.mol_table_rules.specs.Rules.{IsProgram}
 use Rattle.mol_values_types.specs.declared.cell.Cell.{Cell}
 use Rattle.mol_values_types.specs.declared.cell.Slot.TheVariants as slots

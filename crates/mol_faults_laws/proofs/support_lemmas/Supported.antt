@@ -1,5 +1,5 @@
 -- Each kind of fault but misread names: where the part holds what it rests on, the part has it too, or is not clean by another one.
-use Rattle.std.proofs.Common.{true, sym, true≢false}
+use Rattle.std.proofs.Common.{true≢false}
 use Rattle.mol_faults_laws.proofs.support_lemmas.AddressesHeld.{same-address-held}
 use Rattle.mol_faults_laws.proofs.support_lemmas.ApartHeld.{apart-held}
 use Rattle.mol_faults_laws.proofs.support_lemmas.MissingHeld.{missing-held}
@@ -7,7 +7,7 @@ use Rattle.mol_faults_laws.proofs.support_lemmas.NamesHeld.{local-clash-held, ou
 use Rattle.mol_faults_laws.proofs.support_lemmas.OverridesHeld.{false-override-held}
 use Rattle.mol_faults_laws.specs.support.Laws.{FaultsSupported, HoldSupport, IsPart, is_misread}
 use Rattle.mol_spell_rules.specs.Clean.{Clean}
-use Rattle.mol_spell_rules.specs.FaultList.{Fault, IsFault, apart, by_absence, by_address, by_local, by_outside_name, by_override, by_package, by_place, by_reading, false_override, local_clash, misread, missing, outside_name, package_is_class, same_address}
+use Rattle.mol_spell_rules.specs.FaultList.{Fault, IsFault, apart, by_absence, by_address, by_local, by_outside_name, by_override, by_package, by_place, false_override, local_clash, misread, missing, outside_name, package_is_class, same_address}
 use Rattle.mol_table_rules.specs.Program.{Program}
 use Rattle.mol_table_rules.specs.Rules.{IsProgram}
 use Rattle.std.specs.Prelude.{◌≡◌, false}

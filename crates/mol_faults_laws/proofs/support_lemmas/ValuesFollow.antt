@@ -1,9 +1,9 @@
 -- What statements and values mention once they are tidied, by two programs: as of expressions.
-use Rattle.std.specs.Prelude.{◌≡◌, ◌⊎◌, List, [], ◌∷◌, ◌++◌, map, Option, None, Some, option_map}
-use Rattle.std.proofs.Common.{inl, inr, refl, sym, ap, subst, ◌∙◌}
+use Rattle.std.specs.Prelude.{◌≡◌, List, [], ◌∷◌, ◌++◌, map, Option, None, Some, option_map}
+use Rattle.std.proofs.Common.{inr, refl, sym, ap, subst, ◌∙◌}
 use Rattle.std.specs.List.{flat_map}
 use Rattle.mol_base.specs.declared.ident.Id.{Id}
-use Rattle.mol_faults_laws.proofs.support_lemmas.MentionsFollow.{Each, Agrees, Follows, same, in-turn, called, called_by, expr-followed, call-followed}
+use Rattle.mol_faults_laws.proofs.support_lemmas.MentionsFollow.{Each, Follows, same, in-turn, called, called_by, expr-followed, call-followed}
 use Rattle.mol_table_rules.proofs.KeptBlocks.{else_mentions, node_mentions, block_mentions, if_mentions, statement_mentions, Mentioned}
 use Rattle.mol_table_rules.specs.Mentions as mentioning
 use Rattle.mol_table_rules.specs.Mentions.{Mention, a_constructor, joined, type_mentions, expr_mentions, exprs_mentions, maybe_mentions, let_mentions, start_mentions, mentions}
@@ -25,7 +25,6 @@ use Rattle.mol_values_types.specs.declared.iblock.ILet.{ILet}
 use Rattle.mol_values_types.specs.declared.iblock.IStmt.{IStmt}
 use Rattle.mol_values_types.specs.declared.iblock.IStmtNode.{IStmtNode}
 use Rattle.mol_values_types.specs.declared.iblock.IStmtNode.TheVariants as nodes
-use Rattle.mol_values_types.specs.declared.iexpr.Argument.{Argument}
 use Rattle.mol_values_types.specs.declared.iexpr.IExpr.{IExpr}
 use Rattle.mol_values_types.specs.declared.param.Param.{Param}
 use Rattle.mol_values_types.specs.declared.value.Value.{Value}
