@@ -1,0 +1,4 @@
+pub mod Commutes
+pub mod Lives
+pub mod Orders
+pub mod Sameness

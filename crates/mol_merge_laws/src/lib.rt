@@ -1,0 +1,2 @@
+//! Laws of merges.
+#![tactic(auto)]
