@@ -30,7 +30,8 @@ plain (knowns.Param method) = false
 abbrev pub entity_as : Program → Id → Option Known → Bool
 entity_as program id known = is_some (entity_in known) && lives_as program id known
 
-pub entity-plain : (program : Program) (id : Id) (what : Known) → plain what ≡ true → entity_as program id (Some what) ≡ living_at program id
+pub entity-plain : (program : Program) (id : Id) (what : Known) → plain what ≡ true
+    → entity_as program id (Some what) ≡ living_at program id
 entity-plain program id knowns.Class e = refl
 entity-plain program id knowns.Field e = refl
 entity-plain program id (knowns.Decl method) e = refl
@@ -40,7 +41,8 @@ entity-plain program id (knowns.Param method) e = absurd (true≢false (sym e))
 pub no-life : (program : Program) → IsProgram program → (id : Id) → get program.known id ≡ None → living_at program id ≡ false
 no-life program rules id none = ap is_yes (no-cell program rules id slots.Live none)
 
-pub lives-known : (program : Program) (id : Id) → is_living_entity program id ≡ true → (what : Known) × (entity_in (get program.known id) ≡ Some what)
+pub lives-known : (program : Program) (id : Id) → is_living_entity program id ≡ true
+    → (what : Known) × (entity_in (get program.known id) ≡ Some what)
 lives-known program id lives = by (entity_in (get program.known id)) refl lives where
   by : (o : Option Known) → entity_in (get program.known id) ≡ o → (is_some o && lives_as program id (get program.known id)) ≡ true
       → (what : Known) × (entity_in (get program.known id) ≡ Some what)
@@ -55,11 +57,11 @@ entity-some (Some knowns.Field) what e = e
 entity-some (Some (knowns.Decl method)) what e = e
 entity-some (Some (knowns.Method kind)) what e = e
 
-pub dead-plain : (program : Program) → IsProgram program → (id : Id) (what : Known) → plain what ≡ true → is_living_entity program id ≡ false
+pub dead-plain : (program : Program) → IsProgram program → (id : Id) (what : Known) → plain what ≡ true
+    → is_living_entity program id ≡ false
     → (get program.known id ≡ None) ⊎ (get program.known id ≡ Some what) → living_at program id ≡ false
 dead-plain program rules id what plain dead (inl none) = no-life program rules id none
 dead-plain program rules id what plain dead (inr is) = sym (ap (entity_as program id) is ∙ entity-plain program id what plain) ∙ dead
-
 
 -- ---- methods, by their declarations
 
@@ -68,14 +70,16 @@ pub entries-known : (known : Knowns) → AllByRecursion (λ e. get known e.0 ≡
 entries-known = each_found id_cmp-total id_cmp-IsAntisymmetric
 
 -- and what is known is an entry
-any-found : (p : Id × Known → Bool) (es : List (Id × Known)) (q : Id) (what : Known) → find id_cmp q es ≡ Some what → p (q, what) ≡ true → list_any p es ≡ true
+any-found : (p : Id × Known → Bool) (es : List (Id × Known)) (q : Id) (what : Known) → find id_cmp q es ≡ Some what → p (q, what) ≡ true
+    → list_any p es ≡ true
 any-found p [] q what is holds = absurd (none-some what is)
 any-found p (e ∷ es) q what is holds = by (same_id q e.0) refl is (λ later. any-found p es q what later holds) where
   or-true : (a : Bool) → (a || true) ≡ true
   or-true true = refl
   or-true false = refl
 
-  by : (b : Bool) → same_id q e.0 ≡ b → cond b (Some e.1) (find id_cmp q es) ≡ Some what → (find id_cmp q es ≡ Some what → list_any p es ≡ true) → (p e || list_any p es) ≡ true
+  by : (b : Bool) → same_id q e.0 ≡ b → cond b (Some e.1) (find id_cmp q es) ≡ Some what
+      → (find id_cmp q es ≡ Some what → list_any p es ≡ true) → (p e || list_any p es) ≡ true
   by true t so more =
       let key : e.0 ≡ q = sym (id_is q e.0 t) in
       let value : e.1 ≡ what = some-same e.1 what so in
@@ -91,27 +95,33 @@ any-same p q [] same = refl
 any-same p q (x ∷ xs) same = (λ i. same.0 i || any-same p q xs same.1 i)
 
 -- a method with a living declaration lives
-pub lives-by : (program : Program) (method decl : Id) → get program.known decl ≡ Some (knowns.Decl method) → living_at program decl ≡ true → lives_method program method ≡ true
+pub lives-by : (program : Program) (method decl : Id) → get program.known decl ≡ Some (knowns.Decl method)
+    → living_at program decl ≡ true → lives_method program method ≡ true
 lives-by program method decl known lives =
-    any-found (is_living_decl program method) (entries program.known) decl (knowns.Decl method) (sym (get-entries program.known decl) ∙ known)
+    any-found (is_living_decl program method) (entries program.known) decl (knowns.Decl method)
+    (sym (get-entries program.known decl) ∙ known)
     ((λ i. (eq_by_cmp_equiv id_cmp-total).refl method i && lives i))
 
 -- one none of whose declarations lives does not
-pub dead-by : (program : Program) (method : Id) → ((decl : Id) → get program.known decl ≡ Some (knowns.Decl method) → living_at program decl ≡ false) → lives_method program method ≡ false
-dead-by program method none = any-false (is_living_decl program method) (entries program.known) (at (entries program.known) (entries-known program.known)) where
-  one : (id : Id) (what : Known) → get program.known id ≡ Some what → is_living_decl program method (id, what) ≡ false
-  one id knowns.Class is = refl
-  one id knowns.Field is = refl
-  one id (knowns.Method kind) is = refl
-  one id (knowns.Param of) is = refl
-  one id (knowns.Decl own) is = by (same_id method own) refl where
-    by : (b : Bool) → same_id method own ≡ b → (same_id method own && living_at program id) ≡ false
-    by true t = (λ i. t i && none id (is ∙ ap (λ m. Some (knowns.Decl m)) (sym (id_is method own t))) i)
-    by false t = ap (λ b. b && living_at program id) t
+pub dead-by : (program : Program) (method : Id)
+    → ((decl : Id) → get program.known decl ≡ Some (knowns.Decl method) → living_at program decl ≡ false)
+    → lives_method program method ≡ false
+dead-by program method none = any-false (is_living_decl program method) (entries program.known)
+    (at (entries program.known) (entries-known program.known)) where
+      one : (id : Id) (what : Known) → get program.known id ≡ Some what → is_living_decl program method (id, what) ≡ false
+      one id knowns.Class is = refl
+      one id knowns.Field is = refl
+      one id (knowns.Method kind) is = refl
+      one id (knowns.Param of) is = refl
+      one id (knowns.Decl own) is = by (same_id method own) refl where
+        by : (b : Bool) → same_id method own ≡ b → (same_id method own && living_at program id) ≡ false
+        by true t = (λ i. t i && none id (is ∙ ap (λ m. Some (knowns.Decl m)) (sym (id_is method own t))) i)
+        by false t = ap (λ b. b && living_at program id) t
 
-  at : (part : List (Id × Known)) → AllByRecursion (λ e. get program.known e.0 ≡ Some e.1) part → AllByRecursion (λ e. is_living_decl program method e ≡ false) part
-  at [] all = tt {0}
-  at (e ∷ part) all = (one e.0 e.1 all.0, at part all.1)
+      at : (part : List (Id × Known)) → AllByRecursion (λ e. get program.known e.0 ≡ Some e.1) part
+          → AllByRecursion (λ e. is_living_decl program method e ≡ false) part
+      at [] all = tt {0}
+      at (e ∷ part) all = (one e.0 e.1 all.0, at part all.1)
 
 -- a declaration is one of a method
 method-of : (program : Program) → IsProgram program → (method decl : Id) → get program.known decl ≡ Some (knowns.Decl method)
@@ -138,17 +148,21 @@ dead-decl program rules method decl dead (inr is) = by (living_at program decl) 
   by true e = absurd (true≢false (sym (lives-by program method decl is e) ∙ none))
 
 -- a living method has a declaration that lives
-any-some : {X : Type 0} (P : X → Type 0) (p : X → Bool) (xs : List X) → AllByRecursion P xs → list_any p xs ≡ true → (x : X) × (P x) × (p x ≡ true)
+any-some : {X : Type 0} (P : X → Type 0) (p : X → Bool) (xs : List X) → AllByRecursion P xs → list_any p xs ≡ true
+    → (x : X) × (P x) × (p x ≡ true)
 any-some P p [] all is = absurd (true≢false (sym is))
 any-some P p (x ∷ xs) all is = by (p x) refl is (any-some P p xs all.1) where
-  by : (b : Bool) → p x ≡ b → (b || list_any p xs) ≡ true → (list_any p xs ≡ true → (y : _) × (P y) × (p y ≡ true)) → (y : _) × (P y) × (p y ≡ true)
+  by : (b : Bool) → p x ≡ b → (b || list_any p xs) ≡ true → (list_any p xs ≡ true → (y : _) × (P y) × (p y ≡ true))
+      → (y : _) × (P y) × (p y ≡ true)
   by true e so rest = (x, all.0, e)
   by false e so rest = rest so
 
-pub decl-lives : (program : Program) (method : Id) → lives_method program method ≡ true → (decl : Id) × (get program.known decl ≡ Some (knowns.Decl method)) × (living_at program decl ≡ true)
+pub decl-lives : (program : Program) (method : Id) → lives_method program method ≡ true
+    → (decl : Id) × (get program.known decl ≡ Some (knowns.Decl method)) × (living_at program decl ≡ true)
 decl-lives program method lives = at some.0.0 some.0.1 some.1 some.2 where
   some : (e : Id × Known) × (get program.known e.0 ≡ Some e.1) × (is_living_decl program method e ≡ true)
-  some = any-some (λ e. get program.known e.0 ≡ Some e.1) (is_living_decl program method) (entries program.known) (entries-known program.known) lives
+  some = any-some (λ e. get program.known e.0 ≡ Some e.1) (is_living_decl program method) (entries program.known)
+      (entries-known program.known) lives
 
   at : (id : Id) (what : Known) → get program.known id ≡ Some what → is_living_decl program method (id, what) ≡ true
       → (decl : Id) × (get program.known decl ≡ Some (knowns.Decl method)) × (living_at program decl ≡ true)

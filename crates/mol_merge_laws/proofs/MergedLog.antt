@@ -1,17 +1,14 @@
 -- The log of two that share no tag.
-use Rattle.std.proofs.Common.{◌≡◌, ◌≢◌, ◌∙◌, refl, sym, ap, subst, true≢false, ℕ, ◌+◌, ◌≤◌, List, [], ◌∷◌, ◌++◌, length, Contains, Less, ◌⊎◌, inl, inr}
-use Rattle.std.proofs.Common.{arith}
-use Rattle.std.proofs.Math.Bool.{Bool-set}
+use Rattle.std.proofs.Common.{◌≡◌, ◌≢◌, ◌∙◌, refl, sym, ap, subst, ℕ, ◌+◌, ◌≤◌, List, [], ◌∷◌, ◌++◌, length, Contains, ◌⊎◌, inl, inr}
 use Rattle.std.proofs.Math.Logic.{∥∥₁_map₂}
 use Rattle.std.proofs.lemmas.Bool.{and_from}
 use Rattle.std.proofs.lemmas.List.{length-append}
 use Rattle.std.proofs.lemmas.List.Elements.{Contains-append_left, Contains-append_right, Contains-append_cases}
 use Rattle.std.proofs.lemmas.Slice.Eq.{bytes_eq-Decides}
-use Rattle.std.specs.Cmp.Lexicographic.{same_text}
-use Rattle.std.specs.List.{AllByRecursion, list_all, list_any}
+use Rattle.std.specs.List.{list_all, list_any}
 use Rattle.std.specs.List.Sorted.{IsStrictlySortedBy}
 use Rattle.std.specs.Ordering.{is_lt}
-use Rattle.std.specs.Prelude.{◌&&◌, Bool, true, false, cond, nat_lt}
+use Rattle.std.specs.Prelude.{◌&&◌, Bool, true, cond, nat_lt}
 use Rattle.std.specs.Str.{bytes_eq}
 use Rattle.jav_names.proofs.Lists.{Decides-fails, stands_first, stands_later, stands_nowhere, stands_where}
 use Rattle.mol_base.proofs.Tags.{both_true}
@@ -24,7 +21,7 @@ use Rattle.mol_log.specs.LogForms.{Follow, IsLog}
 use Rattle.mol_log.specs.declared.entries.entry.Entry.{Entry}
 use Rattle.mol_log.specs.declared.log.Log.{Log}
 use Rattle.mol_log_rows.specs.lines.Headers.{are_tags, ascend, some_tags}
-use Rattle.mol_log_rows.specs.lines.Stamps.{last_number, may_follow}
+use Rattle.mol_log_rows.specs.lines.Stamps.{last_number}
 use Rattle.mol_log_rules.proofs.Appended.{follow-append, stamps_behind}
 use Rattle.mol_log_rules.proofs.LeftOut.{follow-tags}
 use Rattle.mol_log_rules.proofs.LogEntries.{history-append}
@@ -49,7 +46,7 @@ all-of p [] each = refl
 all-of p (x ∷ xs) each =
     and_from (p x) (list_all p xs) (each x (stands_first x xs)) (all-of p xs (λ y stands. each y (stands_later x y xs stands)))
 
-each-of : {X : Type 0} (p : X → Bool) (xs : List X) → list_all p xs ≡ true → (x : X) → Contains xs x → p x ≡ true
+pub each-of : {X : Type 0} (p : X → Bool) (xs : List X) → list_all p xs ≡ true → (x : X) → Contains xs x → p x ≡ true
 each-of p [] all x stands = absurd (stands_nowhere x stands)
 each-of {X} p (y ∷ xs) all x stands = at (stands_where y x xs stands) (each-of p xs parts.1 x) where
   parts : (p y ≡ true) × (list_all p xs ≡ true)
@@ -83,7 +80,8 @@ follow-own : (tags : List (List ℕ)) (before earlier : List Stamp) (entries : L
     → Follow tags earlier entries → Follow tags before entries
 follow-own tags before earlier [] alike follow = tt {0}
 follow-own tags before earlier (entry ∷ entries) alike follow =
-    let parts = both_true (list_any (bytes_eq entry.stamp.tag) tags) (nat_lt (last_number entry.stamp.tag earlier) entry.stamp.seq) follow.0 in (
+    let parts = both_true (list_any (bytes_eq entry.stamp.tag) tags) (nat_lt (last_number entry.stamp.tag earlier) entry.stamp.seq) follow.0
+    in (
       and_from (list_any (bytes_eq entry.stamp.tag) tags) (nat_lt (last_number entry.stamp.tag before) entry.stamp.seq) parts.0
           (ap (λ n. nat_lt n entry.stamp.seq) (alike entry.stamp.tag ((listed-decides tags entry.stamp.tag).0 parts.0)) ∙ parts.1),
       follow-own tags (entry.stamp ∷ before) (entry.stamp ∷ earlier) entries
@@ -110,9 +108,9 @@ module _ (one other : Log) where
   tags-formed first second =
       and_from (some_tags tags && list_all is_tag tags) (ascend tags)
       (and_from (some_tags tags) (list_all is_tag tags)
-          (some-of tags (first_tag one) (of-one (first_tag one) (first-listed one)))
-          (all-of is_tag tags (λ tag stands. from tag (Contains-append_cases one.tags other.tags tag
-              ((set-has tag_cmp tag_order (one.tags ++ other.tags) tag).0 stands)))))
+      (some-of tags (first_tag one) (of-one (first_tag one) (first-listed one)))
+      (all-of is_tag tags (λ tag stands. from tag (Contains-append_cases one.tags other.tags tag
+      ((set-has tag_cmp tag_order (one.tags ++ other.tags) tag).0 stands)))))
       (ascend-of tags (set-ascends tag_cmp tag_order (one.tags ++ other.tags)))
     where
       right : (part : List (List ℕ)) → are_tags part ≡ true → list_all is_tag part ≡ true

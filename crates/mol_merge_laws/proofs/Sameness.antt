@@ -1,4 +1,5 @@
--- Where no pair conflicts, all orders of two histories leave the same program: the histories differ only in cells of what is dead after both.
+-- Where no pair conflicts, all orders of two histories leave the same program: the histories differ only in cells of what is dead after
+-- both.
 use Rattle.std.proofs.Common.{◌≡◌, ◌≢◌, ◌∙◌, refl, sym, ap, subst, true≢false, ℕ, List, [], ◌∷◌, Option, None, Some}
 use mathlib.Core.Logic.{inl, inr}
 use Rattle.std.specs.Prelude.{◌⊎◌, ◌&&◌, Bool, true, false}
@@ -61,24 +62,28 @@ last-one-of (from_second {y = entry} rest) at = one-second (last_write entry.cha
 -- ---- two histories
 
 -- what a history makes known has a tag of it
-made-tag : (history : History) (program : Program) → AreLawful history → AppliesOn program history → (id : Id) (what : Known) → get program.known id ≡ None
-    → get (after program history).known id ≡ Some what → (P : List ℕ → Type 0) → AllByRecursion (λ (entry : Stamped). P entry.stamp.tag) history → P id.tag
+made-tag : (history : History) (program : Program) → AreLawful history → AppliesOn program history → (id : Id) (what : Known)
+    → get program.known id ≡ None
+    → get (after program history).known id ≡ Some what → (P : List ℕ → Type 0)
+    → AllByRecursion (λ (entry : Stamped). P entry.stamp.tag) history → P id.tag
 made-tag [] program laws applies id what none some P all = absurd (clash (get program.known id) what some none)
 made-tag (entry ∷ history) program laws applies id what none some P all =
     by (λ e. made-tag history next laws.1 applies.1 id what e some P all.1) (get next.known id) refl where
-  next : Program
-  next = written program entry.change.writes entry.change.names
+      next : Program
+      next = written program entry.change.writes entry.change.names
 
-  tagged : (k : Known) → (get program.known id ≡ Some k) ⊎ ((get program.known id ≡ None) × (id.tag ≡ entry.stamp.tag)) → P id.tag
-  tagged k (inl known) = absurd (clash (get program.known id) k known none)
-  tagged k (inr new) = subst P (sym new.1) all.0
+      tagged : (k : Known) → (get program.known id ≡ Some k) ⊎ ((get program.known id ≡ None) × (id.tag ≡ entry.stamp.tag)) → P id.tag
+      tagged k (inl known) = absurd (clash (get program.known id) k known none)
+      tagged k (inr new) = subst P (sym new.1) all.0
 
-  by : (get next.known id ≡ None → P id.tag) → (o : Option Known) → get next.known id ≡ o → P id.tag
-  by later None e = later e
-  by later (Some k) e =
-      tagged k (first-each (λ id k. (get program.known id ≡ Some k) ⊎ ((get program.known id ≡ None) × (id.tag ≡ entry.stamp.tag))) entry.change.names
-      (laws.0.named program.known applies.0) id k
-      (sym (ap (λ o. option_or o (first_name entry.change.names id)) none) ∙ sym (get-know_all entry.change.names program.known id) ∙ e))
+      by : (get next.known id ≡ None → P id.tag) → (o : Option Known) → get next.known id ≡ o → P id.tag
+      by later None e = later e
+      by later (Some k) e =
+          tagged k (first-each (λ id k. (get program.known id ≡ Some k) ⊎ ((get program.known id ≡ None) × (id.tag ≡ entry.stamp.tag)))
+          entry.change.names
+          (laws.0.named program.known applies.0) id k
+          (sym (ap (λ o. option_or o (first_name entry.change.names id)) none)
+          ∙ sym (get-know_all entry.change.names program.known id) ∙ e))
 
 module _ (base : Program) (one other : History) (laws : AreLawful one) (more : AreLawful other)
     (first : AppliesOn base one) (second : AppliesOn base other) (differ : TagsDiffer one other) (rules : IsProgram base) where
@@ -107,7 +112,8 @@ module _ (base : Program) (one other : History) (laws : AreLawful one) (more : A
       (made-tag one base laws first id a none in_one (λ tag. AllByRecursion (λ (entry : Stamped). tag ≢ entry.stamp.tag) other) differ) refl
 
   -- a history that does not know an identity writes no cell of it
-  pub no-write : (history : History) → IsProgram (after base history) → (at : Cell) → get (after base history).known at.id ≡ None → last history at ≡ None
+  pub no-write : (history : History) → IsProgram (after base history) → (at : Cell) → get (after base history).known at.id ≡ None
+      → last history at ≡ None
   no-write history is at none = by (last history at) refl where
     by : (o : Option Value) → last history at ≡ o → o ≡ None
     by None e = refl
@@ -117,16 +123,20 @@ module _ (base : Program) (one other : History) (laws : AreLawful one) (more : A
   module _ (alive : HasNoDead base)
       -- no pair conflict of the kinds Twice and GoneChanged
       (twice : (at : Cell) → is_living_entity L at.id ≡ true → is_living_entity M at.id ≡ true → AgreeAt one other at)
-      (gone_one : (at : Cell) → is_living_entity base at.id ≡ true → is_living_entity L at.id ≡ false → is_living_entity M at.id ≡ true → last other at ≡ None)
-      (gone_other : (at : Cell) → is_living_entity base at.id ≡ true → is_living_entity M at.id ≡ false → is_living_entity L at.id ≡ true → last one at ≡ None) where
+      (gone_one : (at : Cell) → is_living_entity base at.id ≡ true → is_living_entity L at.id ≡ false
+      → is_living_entity M at.id ≡ true → last other at ≡ None)
+      (gone_other : (at : Cell) → is_living_entity base at.id ≡ true → is_living_entity M at.id ≡ false
+      → is_living_entity L at.id ≡ true → last one at ≡ None) where
     -- an entity that the base knows, and that lives after a history, lives in the base
-    pub alive-at : (left : Program) → Within base.known left.known → (id : Id) (k : Known) → get base.known id ≡ Some k → is_living_entity left id ≡ true → is_living_entity base id ≡ true
+    pub alive-at : (left : Program) → Within base.known left.known → (id : Id) (k : Known) → get base.known id ≡ Some k
+        → is_living_entity left id ≡ true → is_living_entity base id ≡ true
     alive-at left within id k e lives =
         let found = lives-known left id lives in
         let same : k ≡ found.0 = some-same k found.0 (sym (within id k e) ∙ entity-some (get left.known id) found.0 found.1) in
         alive id found.0 (ap entity_in (e ∙ sym (within id k e)) ∙ found.1)
 
-    unknown-in : (known : Knowns) (id : Id) → ((k : Known) → get known id ≡ Some k → ⊥) → (o : Option Known) → get known id ≡ o → get known id ≡ None
+    unknown-in : (known : Knowns) (id : Id) → ((k : Known) → get known id ≡ Some k → ⊥) → (o : Option Known) → get known id ≡ o
+        → get known id ≡ None
     unknown-in known id never None e = e
     unknown-in known id never (Some k) e = absurd (never k e)
 
@@ -138,7 +148,8 @@ module _ (base : Program) (one other : History) (laws : AreLawful one) (more : A
 
       by : (o : Option Known) → get base.known at.id ≡ o → x ≡ y
       by None e = absurd (clash (last one at) x is (no-write one rules_one at
-          (unknown-in L.known at.id (λ k so. apart at.id k found.0 e so (entity-some (get M.known at.id) found.0 found.1)) (get L.known at.id) refl)))
+          (unknown-in L.known at.id (λ k so. apart at.id k found.0 e so (entity-some (get M.known at.id) found.0 found.1))
+          (get L.known at.id) refl)))
       by (Some k) e = absurd (clash (last other at) y also (gone_one at (alive-at M within-other at.id k e lives) dead lives))
 
     alone-one : (at : Cell) → is_living_entity M at.id ≡ false → is_living_entity L at.id ≡ true → AgreeAt one other at
@@ -148,7 +159,8 @@ module _ (base : Program) (one other : History) (laws : AreLawful one) (more : A
 
       by : (o : Option Known) → get base.known at.id ≡ o → x ≡ y
       by None e = absurd (clash (last other at) y also (no-write other rules_other at
-          (unknown-in M.known at.id (λ k so. apart at.id found.0 k e (entity-some (get L.known at.id) found.0 found.1) so) (get M.known at.id) refl)))
+          (unknown-in M.known at.id (λ k so. apart at.id found.0 k e (entity-some (get L.known at.id) found.0 found.1) so)
+          (get M.known at.id) refl)))
       by (Some k) e = absurd (clash (last one at) x is (gone_other at (alive-at L within-one at.id k e lives) dead lives))
 
     -- the histories agree at each cell of what is not dead after both
@@ -176,13 +188,15 @@ module _ (base : Program) (one other : History) (laws : AreLawful one) (more : A
 
       pub from-other : (id : Id) (what : Known) → get W.known id ≡ Some what → (get M.known id ≡ None) ⊎ (get M.known id ≡ Some what)
       from-other id what is = by (get M.known id) refl (get L.known id) refl where
-        by : (o : Option Known) → get M.known id ≡ o → (p : Option Known) → get L.known id ≡ p → (get M.known id ≡ None) ⊎ (get M.known id ≡ Some what)
+        by : (o : Option Known) → get M.known id ≡ o → (p : Option Known) → get L.known id ≡ p
+            → (get M.known id ≡ None) ⊎ (get M.known id ≡ Some what)
         by None e p f = inl e
         by (Some k) e None f = inr (sym (known-is id ∙ ap (λ o. option_or o (get M.known id)) f) ∙ is)
         by (Some k) e (Some l) f = at (get base.known id) refl where
           at : (o : Option Known) → get base.known id ≡ o → (get M.known id ≡ None) ⊎ (get M.known id ≡ Some what)
           at None none = absurd (apart id l k none f e)
-          at (Some b) known = inr (within-other id b known ∙ sym (within-one id b known) ∙ f ∙ sym (known-is id ∙ ap (λ o. option_or o (get M.known id)) f) ∙ is)
+          at (Some b) known = inr (within-other id b known ∙ sym (within-one id b known) ∙ f
+              ∙ sym (known-is id ∙ ap (λ o. option_or o (get M.known id)) f) ∙ is)
 
       -- a cell has the value that one of the histories leaves
       one-of-cells : (at : Cell) → (get W.cells at ≡ get L.cells at) ⊎ (get W.cells at ≡ get M.cells at)
@@ -198,13 +212,16 @@ module _ (base : Program) (one other : History) (laws : AreLawful one) (more : A
 
       dead-at : (id : Id) → living_at L id ≡ false → living_at M id ≡ false → living_at W id ≡ false
       dead-at id l m = by (one-of-cells (cell id slots.Live)) where
-        by : (get W.cells (cell id slots.Live) ≡ get L.cells (cell id slots.Live)) ⊎ (get W.cells (cell id slots.Live) ≡ get M.cells (cell id slots.Live)) → living_at W id ≡ false
+        by : (get W.cells (cell id slots.Live) ≡ get L.cells (cell id slots.Live))
+            ⊎ (get W.cells (cell id slots.Live) ≡ get M.cells (cell id slots.Live)) → living_at W id ≡ false
         by (inl e) = ap is_yes e ∙ l
         by (inr e) = ap is_yes e ∙ m
 
-      dead-plain-at : (id : Id) (what : Known) → plain what ≡ true → get W.known id ≡ Some what → is_living_entity L id ≡ false → is_living_entity M id ≡ false → living_at W id ≡ false
+      dead-plain-at : (id : Id) (what : Known) → plain what ≡ true → get W.known id ≡ Some what → is_living_entity L id ≡ false
+          → is_living_entity M id ≡ false → living_at W id ≡ false
       dead-plain-at id what is known l m =
-          dead-at id (dead-plain L rules_one id what is l (from-one id what known)) (dead-plain M rules_other id what is m (from-other id what known))
+          dead-at id (dead-plain L rules_one id what is l (from-one id what known))
+          (dead-plain M rules_other id what is m (from-other id what known))
 
       dead-method : (id : Id) → is_living_entity L id ≡ false → is_living_entity M id ≡ false → lives_method W id ≡ false
       dead-method id l m = dead-by W id (λ decl known. dead-at decl
@@ -251,7 +268,8 @@ module _ (base : Program) (one other : History) (laws : AreLawful one) (more : A
         by false l false e =
             dead-plain-at log order id what is known l e ∙ sym (dead-plain-at also too id what is (sym (same-known id) ∙ known) l e)
 
-      same-decl : (method id : Id) (what : Known) → get here.known id ≡ Some what → is_living_decl here method (id, what) ≡ is_living_decl there method (id, what)
+      same-decl : (method id : Id) (what : Known) → get here.known id ≡ Some what
+          → is_living_decl here method (id, what) ≡ is_living_decl there method (id, what)
       same-decl method id knowns.Class known = refl
       same-decl method id knowns.Field known = refl
       same-decl method id (knowns.Method kind) known = refl
@@ -260,10 +278,13 @@ module _ (base : Program) (one other : History) (laws : AreLawful one) (more : A
 
       same-method : (method : Id) → lives_method here method ≡ lives_method there method
       same-method method =
-          any-same (is_living_decl here method) (is_living_decl there method) (entries here.known) (at (entries here.known) (entries-known here.known))
-          ∙ ap (λ known. list_any (is_living_decl there method) (entries known)) (same_map id_cmp-total id_cmp-IsAntisymmetric here.known there.known same-known)
+          any-same (is_living_decl here method) (is_living_decl there method) (entries here.known)
+          (at (entries here.known) (entries-known here.known))
+          ∙ ap (λ known. list_any (is_living_decl there method) (entries known))
+          (same_map id_cmp-total id_cmp-IsAntisymmetric here.known there.known same-known)
         where
-          at : (part : List (Id × Known)) → AllByRecursion (λ e. get here.known e.0 ≡ Some e.1) part → AllByRecursion (λ e. is_living_decl here method e ≡ is_living_decl there method e) part
+          at : (part : List (Id × Known)) → AllByRecursion (λ e. get here.known e.0 ≡ Some e.1) part
+              → AllByRecursion (λ e. is_living_decl here method e ≡ is_living_decl there method e) part
           at [] all = tt {0}
           at (e ∷ part) all = (same-decl method e.0 e.1 all.0, at part all.1)
 
@@ -275,11 +296,13 @@ module _ (base : Program) (one other : History) (laws : AreLawful one) (more : A
         by (Some (knowns.Method kind)) e = ap (entity_as here id) e ∙ same-method id ∙ sym (ap (entity_as there id) e)
         by (Some knowns.Class) e = ap (entity_as here id) e ∙ same-plain id knowns.Class e refl ∙ sym (ap (entity_as there id) e)
         by (Some knowns.Field) e = ap (entity_as here id) e ∙ same-plain id knowns.Field e refl ∙ sym (ap (entity_as there id) e)
-        by (Some (knowns.Decl method)) e = ap (entity_as here id) e ∙ same-plain id (knowns.Decl method) e refl ∙ sym (ap (entity_as there id) e)
+        by (Some (knowns.Decl method)) e = ap (entity_as here id) e ∙ same-plain id (knowns.Decl method) e refl
+            ∙ sym (ap (entity_as there id) e)
 
       -- two orders leave the same program
       pub orders-same : Same here there
       orders-same = record {
         living = same-life;
-        agree = λ id slot lives. same-cells (cell id slot) (agree-unless (cell id slot) (λ l m. true≢false (sym lives ∙ dead log order id l m)));
+        agree = λ id slot lives. same-cells (cell id slot)
+            (agree-unless (cell id slot) (λ l m. true≢false (sym lives ∙ dead log order id l m)));
       }

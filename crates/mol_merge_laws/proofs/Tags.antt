@@ -1,19 +1,18 @@
 -- Two logs that share no tag: which goes first, and their entries.
-use Rattle.std.proofs.Common.{◌≡◌, ◌≢◌, ◌∙◌, refl, sym, ap, subst, true≢false, ℕ, List, [], ◌∷◌, Option, None, Some, Contains, Ordering, Less, Equal, Greater, ◌⊎◌, inl, inr}
+use Rattle.std.proofs.Common.{◌≡◌, ◌≢◌, ◌∙◌, refl, sym, ap, subst, true≢false, ℕ, List, [], ◌∷◌, None, Some, Contains, Ordering, Less, Equal, Greater, ◌⊎◌, inl, inr}
 use Rattle.std.proofs.Common.{rules}
 use Rattle.std.proofs.Math.Bool.{Bool-set}
 use Rattle.std.proofs.Math.Logic.{∥∥₁_elim}
 use Rattle.std.proofs.lemmas.Bool.{and_from}
-use Rattle.std.proofs.lemmas.Cmp.{tied_itself}
-use Rattle.std.proofs.lemmas.List.Elements.{All-contains, All-cons, All-nil}
+use Rattle.std.proofs.lemmas.List.Elements.{All-contains}
 use Rattle.std.proofs.lemmas.Slice.Eq.{bytes_eq-Decides}
 use Rattle.std.specs.Bool.{Decides}
 use Rattle.std.specs.Cmp.{IsTotalOrder}
 use Rattle.std.specs.Cmp.Rules.{comparing}
-use Rattle.std.specs.List.{AllByRecursion, find, list_all, list_any}
+use Rattle.std.specs.List.{AllByRecursion, list_all, list_any}
 use Rattle.std.specs.List.Sorted.{IsStrictlySortedBy}
 use Rattle.std.specs.Ordering.{is_lt, ordering_reverse}
-use Rattle.std.specs.Prelude.{◌&&◌, ◌↔◌, Bool, true, false, cond, nat_lt, T, is_some}
+use Rattle.std.specs.Prelude.{◌&&◌, ◌↔◌, true, false, cond, nat_lt}
 use Rattle.std.specs.Str.{bytes_eq}
 use Rattle.jav_names.proofs.Lists.{list_any-decides, find-none, find-holds_of_none, find-least, stands_first, All-from_each}
 use Rattle.jav_names.specs.Choices.{IsLeast, HoldsOfNone}
@@ -21,12 +20,12 @@ use Rattle.jav_names.specs.Views.{IsKeyOrder}
 use Rattle.mol_base.proofs.Tags.{both_true}
 use Rattle.mol_base.specs.Order.{tag_cmp, tag_cmp-IsAntisymmetric}
 use Rattle.mol_base.specs.declared.ident.Stamp.{Stamp}
-use Rattle.mol_log.specs.LogForms.{Follow, IsLog}
+use Rattle.mol_log.specs.LogForms.{Follow}
 use Rattle.mol_log.specs.declared.entries.entry.Entry.{Entry}
 use Rattle.mol_log.specs.declared.log.Log.{Log}
 use Rattle.mol_log_rows.specs.lines.Headers.{are_tags, ascend, some_tags}
 use Rattle.mol_log_rows.specs.lines.Stamps.{last_number}
-use Rattle.mol_log_rules.specs.Histories.{Stamped, History}
+use Rattle.mol_log_rules.specs.Histories.{Stamped}
 use Rattle.mol_log_rules.specs.Logs.{history, history_of}
 use Rattle.mol_merge_rules.specs.TwoLogs.{first_tag, comes_first, lesser, greater, ShareNoTag, least_shared, TagsDiffer}
 
@@ -42,7 +41,10 @@ tags-right log = ∥∥₁_elim log.formed (Bool-set (are_tags log.tags) true) (
 
 -- a tag that the test finds among tags is one of them
 pub listed-decides : (tags : List (List ℕ)) (tag : List ℕ) → Decides (list_any (bytes_eq tag) tags) (Contains tags tag)
-listed-decides tags tag = (λ is. let found = some.0 is in subst (Contains tags) (sym found.2) found.1, λ stands. some.1 (tag, stands, refl)) where
+listed-decides tags tag = (
+  λ is. let found = some.0 is in subst (Contains tags) (sym found.2) found.1,
+  λ stands. some.1 (tag, stands, refl),
+) where
   some : Decides (list_any (bytes_eq tag) tags) ((x : List ℕ) × Contains tags x × (tag ≡ x))
   some = list_any-decides (λ x. tag ≡ x) (bytes_eq tag) (bytes_eq-Decides tag) tags
 
@@ -122,10 +124,12 @@ apart-turned one other apart tag second first = apart tag first second
 
 pub none-shared : (one other : Log) → (least_shared one other ≡ None) ↔ ShareNoTag one other
 none-shared one other = (
-  λ none tag first. All-contains (λ t. ¬ (Contains other.tags t)) one.tags tag (find-none (Contains other.tags) _ (listed-decides other.tags) one.tags none) first,
+  λ none tag first. All-contains (λ t. ¬ (Contains other.tags t)) one.tags tag
+      (find-none (Contains other.tags) _ (listed-decides other.tags) one.tags none) first,
   λ apart. find-holds_of_none (Contains other.tags) _ (listed-decides other.tags) one.tags (each one.tags (λ tag stands. apart tag stands)),
 ) where
-  each : (tags : List (List ℕ)) → ((tag : List ℕ) → Contains tags tag → ¬ (Contains other.tags tag)) → HoldsOfNone (Contains other.tags) tags
+  each : (tags : List (List ℕ)) → ((tag : List ℕ) → Contains tags tag → ¬ (Contains other.tags tag))
+      → HoldsOfNone (Contains other.tags) tags
   each tags none = All-from_each (λ t. ¬ (Contains other.tags t)) tags none
 
 pub shared-least : (one other : Log) (tag : List ℕ) → least_shared one other ≡ Some tag

@@ -5,9 +5,9 @@ use Rattle.std.specs.Option.{option_or}
 use Rattle.mol_base.specs.declared.ident.Id.{Id}
 use Rattle.mol_log_rules.proofs.Appended.{last-append}
 use Rattle.mol_log_rules.proofs.WhatIsLeft.{left-by, only-left}
-use Rattle.mol_log_rules.specs.Histories.{History, after, last, first_named, HasLastWrites}
+use Rattle.mol_log_rules.specs.Histories.{History, after, last, first_named}
 use Rattle.mol_merge_rules.specs.United.{united, IsUnited}
-use Rattle.mol_op.specs.ChangeLaws.{or-assoc, or-none}
+use Rattle.mol_op.specs.ChangeLaws.{or-assoc}
 use Rattle.mol_op.specs.Changes.{first_name}
 use Rattle.mol_table_rules.specs.Program.{Program}
 use Rattle.mol_values_types.specs.declared.cell.Cell.{Cell}
