@@ -40,7 +40,8 @@ to_basket = renamed (stamp (codes "ann") 1) (codes "Basket") ∷ []
 abbrev to_bag : History
 to_bag = renamed (stamp (codes "bob") 1) (codes "Bag") ∷ []
 
-two_names : pair_kind to_basket to_bag (twice class_name) ≡ Some (Twice class_name (values.Name (codes "Basket")) (values.Name (codes "Bag")))
+two_names : pair_kind to_basket to_bag (twice class_name)
+    ≡ Some (Twice class_name (values.Name (codes "Basket")) (values.Name (codes "Bag")))
 two_names = refl
 
 two_stamps : (base : Program) → pair_stamps base to_basket to_bag (twice class_name) ≡ stamp (codes "ann") 1 ∷ stamp (codes "bob") 1 ∷ []
@@ -50,17 +51,20 @@ two_stamps base = refl
 turned_names : pair_kind to_bag to_basket (twice class_name) ≡ pair_kind to_basket to_bag (twice class_name)
 turned_names = refl
 
-turned_stamps : (base : Program) → pair_stamps base to_bag to_basket (twice class_name) ≡ pair_stamps base to_basket to_bag (twice class_name)
+turned_stamps : (base : Program) → pair_stamps base to_bag to_basket (twice class_name)
+    ≡ pair_stamps base to_basket to_bag (twice class_name)
 turned_stamps base = refl
 
 -- A log of `ann` and `zed` goes before one of `bob`, by its first tag. Where `zed` wrote last, the value of `bob` is the first one.
 abbrev of_two_tags : History
 of_two_tags = renamed (stamp (codes "ann") 1) (codes "Case") ∷ renamed (stamp (codes "zed") 4) (codes "Basket") ∷ []
 
-by_stamps : pair_kind of_two_tags to_bag (twice class_name) ≡ Some (Twice class_name (values.Name (codes "Bag")) (values.Name (codes "Basket")))
+by_stamps : pair_kind of_two_tags to_bag (twice class_name)
+    ≡ Some (Twice class_name (values.Name (codes "Bag")) (values.Name (codes "Basket")))
 by_stamps = refl
 
-stamps_ascend : (base : Program) → pair_stamps base of_two_tags to_bag (twice class_name) ≡ stamp (codes "bob") 1 ∷ stamp (codes "zed") 4 ∷ []
+stamps_ascend : (base : Program) → pair_stamps base of_two_tags to_bag (twice class_name)
+    ≡ stamp (codes "bob") 1 ∷ stamp (codes "zed") 4 ∷ []
 stamps_ascend base = refl
 
 -- where one of the two does not write the cell, it is in no conflict
@@ -98,5 +102,6 @@ dead_first base dead = rw dead
 order_of_kinds : pair_cmp (twice (cell (of_base 9) slots.Name)) (gone_changed (of_base 2)) ≡ Less
 order_of_kinds = refl
 
-order_of_identities : pair_cmp (gone_used (of_base 2) (cell (of_base 9) slots.Body)) (gone_used (of_base 3) (cell (of_base 1) slots.Body)) ≡ Less
+order_of_identities : pair_cmp (gone_used (of_base 2) (cell (of_base 9) slots.Body)) (gone_used (of_base 3) (cell (of_base 1) slots.Body))
+    ≡ Less
 order_of_identities = refl

@@ -2,7 +2,7 @@
 use Rattle.std.specs.List.{AllZip, flat_map}
 use Rattle.std.specs.Option.{option_to_list}
 use Rattle.std.specs.Ordering.{is_lt}
-use Rattle.std.specs.Prelude.{◌≡◌, List, [], ◌∷◌, ◌++◌, map, Option, None, Some, if◌then◌else◌}
+use Rattle.std.specs.Prelude.{◌≡◌, Bool, true, false, List, [], ◌∷◌, ◌++◌, map, Option, None, Some, Contains, if◌then◌else◌}
 use Rattle.std.specs.declared.cmp.Ordering.{Ordering}
 use Rattle.std.specs.declared.cmp.Ordering.TheVariants.{Less, Equal, Greater}
 use Rattle.mol_base.specs.Order.{stamp_cmp}
@@ -13,7 +13,8 @@ use Rattle.mol_faults_rules.specs.declared.conflict.Conflict.{Conflict}
 use Rattle.mol_faults_rules.specs.declared.conflict.ConflictKind.{ConflictKind}
 use Rattle.mol_faults_rules.specs.declared.conflict.ConflictKind.TheVariants.{Twice, GoneChanged, GoneUsed, Bad}
 use Rattle.mol_faults_rules.specs.declared.fault.Fault.{Fault}
-use Rattle.mol_log_rules.specs.Histories.{History, after, last}
+use Rattle.mol_faults_rules.specs.declared.fault.Fault.TheVariants.{Misread}
+use Rattle.mol_log_rules.specs.Histories.{Stamped, History, after, last}
 use Rattle.mol_log_rules.specs.Writers.{writer, entity_writer, life_writer}
 use Rattle.mol_merge_rules.specs.PairConflicts.{Pair, twice, gone_changed, gone_used, ArePairs}
 use Rattle.mol_merge_rules.specs.United.{united}
@@ -27,7 +28,11 @@ use Rattle.mol_values_types.specs.declared.value.Value.{Value}
 
 -- ---- stamps
 
--- two stamps in order, each once
+-- stamps in order, each once
+abbrev pub ascending_stamps : List Stamp → List Stamp
+ascending_stamps = as_set stamp_cmp
+
+-- two of them
 abbrev pub both_stamps : Ordering → Stamp → Stamp → List Stamp
 both_stamps Less one other = one ∷ other ∷ []
 both_stamps Equal one other = one ∷ []
@@ -92,7 +97,7 @@ pub record IsBad (base : Program) (one other : History) (fault : Fault) (conflic
   pub kind : conflict.kind ≡ Bad fault
   pub cells : List Cell
   pub rests : IsSupport (united base one other) (kept_fault fault) cells
-  pub stamps : conflict.stamps ≡ as_set stamp_cmp (flat_map (writers one other) cells)
+  pub stamps : conflict.stamps ≡ ascending_stamps (flat_map (writers one other) cells)
 
 -- all of them, in the order of faults
 pub record AreBads (base : Program) (one other : History) (list : List Conflict) : Type 0 where
@@ -108,3 +113,19 @@ pub data AreConflicts (base : Program) (one other : History) : List Conflict →
       → AreConflicts base one other (conflict ∷ rest)
   of_faults : {list : List Conflict} → ArePairConflicts base one other [] → AreBads base one other list
       → AreConflicts base one other list
+
+-- ---- the entries that a conflict names
+
+-- it names an entry of the history
+abbrev pub NamesEntry : History → Conflict → Type 0
+NamesEntry history conflict = (entry : Stamped) × Contains history entry × Contains conflict.stamps entry.stamp
+
+-- an entry of either
+pub record NamesBoth (one other : History) (conflict : Conflict) : Type 0 where
+  pub one_named : NamesEntry one conflict
+  pub other_named : NamesEntry other conflict
+
+-- a fault of a name that reads as something else may come of what one history did alone
+abbrev pub is_misread : ConflictKind → Bool
+is_misread (Bad (Misread at number target)) = true
+is_misread other = false

@@ -1,0 +1,15 @@
+pub mod BadsNamed
+pub mod Commutes
+pub mod Determined
+pub mod EveryOrder
+pub mod Laws
+pub mod Lives
+pub mod MergedLog
+pub mod Named
+pub mod Orders
+pub mod Pairs
+pub mod PartsLeft
+pub mod Sameness
+pub mod Tags
+pub mod UnitedIs
+pub mod UnitedLives
