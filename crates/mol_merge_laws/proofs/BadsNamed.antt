@@ -11,6 +11,8 @@ use Rattle.mol_faults_rules.specs.Kept.{kept_fault}
 use Rattle.mol_faults_rules.specs.declared.conflict.Conflict.{Conflict}
 use Rattle.mol_faults_rules.specs.declared.fault.Fault.{Fault as Kept}
 use Rattle.mol_log.specs.declared.log.Log.{Log}
+use Rattle.mol_log_rules.proofs.LogEntries.{entries-lawful}
+use Rattle.mol_log_rules.proofs.WhatIsLeft.{rules-after}
 use Rattle.mol_log_rules.proofs.WhoWrote.{writers-together}
 use Rattle.mol_log_rules.specs.Histories.{History, after, last}
 use Rattle.mol_log_rules.specs.Logs.{history}
@@ -25,6 +27,7 @@ use Rattle.mol_spell_rules.proofs.SetItems.{set-has}
 use Rattle.mol_spell_rules.specs.Clean.{Clean}
 use Rattle.mol_spell_rules.specs.Support.{Supports}
 use Rattle.mol_table_rules.specs.Program.{Program}
+use Rattle.mol_table_rules.specs.Rules.{IsProgram}
 use Rattle.mol_values_types.specs.declared.cell.Cell.{Cell}
 
 -- ---- lists
@@ -94,15 +97,21 @@ module _ (base : Program) (one other : Log) (together : GoTogether base one othe
     (clean_one : Clean (after base (history one))) (clean_other : Clean (after base (history other)))
     (fault : Kept) (conflict : Conflict) (bad : IsBad base (history one) (history other) fault conflict)
     (rests : RestsIn (united base (history one) (history other)) (kept_fault fault)) where
+  rules-one : IsProgram (after base (history one))
+  rules-one = rules-after base (history one) (entries-lawful one.entries) together.both.first together.rules
+
+  rules-other : IsProgram (after base (history other))
+  rules-other = rules-after base (history other) (entries-lawful other.entries) together.both.second together.rules
+
   bad-named : NamesBoth (history one) (history other) conflict
   bad-named = record {
     one_named = either base (history one) (history other) fault conflict bad (history one)
         (λ at stamp there. Contains-append_left (option_to_list (writer (history one) at)) (option_to_list (writer (history other) at)) stamp there)
-        (λ none. rests (after base (history other)) (parts_of_united.second base one other together clean_one)
+        (λ none. rests (after base (history other)) rules-other (parts_of_united.second base one other together clean_one)
         (λ at supports. parts_of_united.by_second base (history one) (history other) at (none at supports)) clean_other);
     other_named = either base (history one) (history other) fault conflict bad (history other)
         (λ at stamp there. Contains-append_right (option_to_list (writer (history one) at)) (option_to_list (writer (history other) at)) stamp there)
-        (λ none. rests (after base (history one)) (parts_of_united.first base one other together clean_other)
+        (λ none. rests (after base (history one)) rules-one (parts_of_united.first base one other together clean_other)
         (λ at supports. parts_of_united.by_first base (history one) (history other) at (none at supports)) clean_one);
   }
 

@@ -14,11 +14,12 @@ use Rattle.mol_spell_rules.specs.Clean.{Clean}
 use Rattle.mol_spell_rules.specs.FaultList.{Fault}
 use Rattle.mol_spell_rules.specs.Support.{Supports}
 use Rattle.mol_table_rules.specs.Program.{Program}
+use Rattle.mol_table_rules.specs.Rules.{IsProgram}
 use Rattle.mol_values_types.specs.declared.cell.Cell.{Cell}
 
--- No part of the program that holds what it does in each cell which the fault rests on is clean.
+-- No part of the program that keeps the rules and holds what it does in each cell which the fault rests on is clean.
 abbrev pub RestsIn : Program → Fault → Type 0
-RestsIn whole fault = (part : Program) → IsLeftIn whole part
+RestsIn whole fault = (part : Program) → IsProgram part → IsLeftIn whole part
     → ((at : Cell) → Supports whole fault at → get whole.cells at ≡ get part.cells at) → ¬ Clean part
 
 pub record BadsNamed : Type 0 where
