@@ -58,7 +58,8 @@ part-of : (whole part : Program) → IsLeftIn whole part → IsPart whole part
 part-of whole part left = record {
   known = left.known;
   life = left.life;
-  above = λ at value class slot lives here there names in_part. left.above at value class (slot-above at.slot slot) lives here there names in_part;
+  above = λ at value class slot lives here there names in_part.
+      left.above at value class (slot-above at.slot slot) lives here there names in_part;
 }
 
 kept-plain : (fault : Kept) → is_misread (Bad fault) ≡ false → support.is_misread (kept_fault fault) ≡ false
@@ -135,7 +136,8 @@ either-named : (base : Program) (first second : Log) (list : List Conflict) (con
     → (is_first : Bool)
     → AreConflicts base (history (if is_first then first else second)) (history (if is_first then second else first)) list
     → Contains list conflict → is_misread conflict.kind ≡ false → NamesBoth (history first) (history second) conflict
-either-named base first second list conflict given true are stands plain = conflict-named base first second given list are conflict stands plain
+either-named base first second list conflict given true are stands plain =
+    conflict-named base first second given list are conflict stands plain
 either-named base first second list conflict given false are stands plain =
     let named = conflict-named base second first (turned base first second given) list are conflict stands plain in
     record { one_named = named.other_named; other_named = named.one_named }

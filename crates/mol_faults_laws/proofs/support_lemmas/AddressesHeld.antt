@@ -36,7 +36,8 @@ module _ (whole part : Program) (rules : IsProgram whole) (own : IsProgram part)
     has = ap (address_as part id) in_part ∙ same ∙ sym (ap (address_as whole id) in_whole) ∙ has;
   }
 
-  module _ (id : Id) (shared : Address) (has : address whole id ≡ Some shared) (holds : (at : Cell) → AddressCell whole id at → Holds at) where
+  module _ (id : Id) (shared : Address) (has : address whole id ≡ Some shared)
+      (holds : (at : Cell) → AddressCell whole id at → Holds at) where
     of-class : get whole.known id ≡ Some knowns.Class → IsAlike id shared
     of-class is = alike-as id shared knowns.Class is (known-as whole part rules own parts id slots.Live knowns.Class is refl live)
         (living-held whole part rules own parts id live)
@@ -78,7 +79,8 @@ module _ (whole part : Program) (rules : IsProgram whole) (own : IsProgram part)
       params : Holds (cell method slots.Params)
       params = holds (cell method slots.Params) (of_its_method is (slots.Params, ((1, omega arith, refl), refl)))
 
-      by-kind : (kind : MethodKind) → decl_address part id method (Some (knowns.Method kind)) ≡ decl_address whole id method (Some (knowns.Method kind))
+      by-kind : (kind : MethodKind)
+          → decl_address part id method (Some (knowns.Method kind)) ≡ decl_address whole id method (Some (knowns.Method kind))
       by-kind Instance = λ i. method_address (owner_in (sym owner i)) (name_in (sym name i)) (length (params_in (sym params i)))
       by-kind Static = λ i. method_address (owner_in (sym owner i)) (name_in (sym name i)) (length (params_in (sym params i)))
       by-kind Constructor = λ i. constructor_address (owner_in (sym owner i)) (length (params_in (sym params i)))
@@ -88,7 +90,8 @@ module _ (whole part : Program) (rules : IsProgram whole) (own : IsProgram part)
 
       same-address : decl_address part id method (get part.known method) ≡ decl_address whole id method (get whole.known method)
       same-address =
-          ap (decl_address part id method) (known-as whole part rules own parts method slots.Name (knowns.Method method-is.0) method-is.1 refl name)
+          ap (decl_address part id method)
+          (known-as whole part rules own parts method slots.Name (knowns.Method method-is.0) method-is.1 refl name)
           ∙ by-kind method-is.0 ∙ sym (ap (decl_address whole id method) method-is.1)
 
       of-decl : IsAlike id shared

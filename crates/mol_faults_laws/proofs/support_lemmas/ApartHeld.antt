@@ -93,7 +93,8 @@ module _ (whole part : Program) (rules : IsProgram whole) (own : IsProgram part)
           let of = upper-parts part class next up in
           let named = parent-named (value_at part class slots.Super) next of.0 in
           let known = class-known part own (cell class slots.Super) named.0 next named.1 named.2 in
-          let next_lives : Lives next = parts.above (cell class slots.Super) named.0 next its_superclass class_lives (held ∙ named.1) named.1
+          let next_lives : Lives next = parts.above (cell class slots.Super) named.0 next its_superclass class_lives (held ∙ named.1)
+          named.1
           named.2 (class-lives part next known ∙ of.1) in (
             upper-of whole class next (ap parent_in held ∙ of.0)
                 (sym (class-lives whole next (parts.known next knowns.Class known)) ∙ next_lives),
@@ -141,7 +142,8 @@ module _ (whole part : Program) (rules : IsProgram whole) (own : IsProgram part)
         lower same below what known true is =
             let of = passes-declared whole method below what is in
             let in_whole : get whole.known below ≡ Some (knowns.Decl method) = known ∙ ap Some of.0 in
-            let passes = all-known part.known (is_above_living part method decl) below (knowns.Decl method) both.1 (in-part below in_whole) in
+            let passes = all-known part.known (is_above_living part method decl) below (knowns.Decl method) both.1
+            (in-part below in_whole) in
             let over : is_above part (owner_at part below) (owner_at part decl) ≡ true =
             sym (ap (λ b. not b || is_above part (owner_at part below) (owner_at part decl))
             (declared-passes part method below (same-life below in_whole ∙ of.1))) ∙ passes in

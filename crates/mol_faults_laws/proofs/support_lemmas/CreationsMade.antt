@@ -54,8 +54,10 @@ made-by program class constructor is = record {
   some : (id : Id) × (what : Known) × (get program.known id ≡ Some what) × (is_living_decl_in program class constructor (id, what) ≡ true)
   some = some-known program.known (is_living_decl_in program class constructor) bare.1
 
-  parts : (is_living_decl program constructor (some.0, some.1) ≡ true) × (option_map_or (same_id class) (owner_at program some.0) false ≡ true)
-  parts = and_parts (is_living_decl program constructor (some.0, some.1)) (option_map_or (same_id class) (owner_at program some.0) false) some.3
+  parts : (is_living_decl program constructor (some.0, some.1) ≡ true)
+      × (option_map_or (same_id class) (owner_at program some.0) false ≡ true)
+  parts = and_parts (is_living_decl program constructor (some.0, some.1))
+      (option_map_or (same_id class) (owner_at program some.0) false) some.3
 
   declared : (some.1 ≡ knowns.Decl constructor) × (living_at program some.0 ≡ true)
   declared = passes-declared program constructor some.0 some.1 parts.0

@@ -68,7 +68,8 @@ module _ (program : Program) where
   decl-lives id method is = ap (entity_as id) is
 
   module _ (rules : IsProgram program) where
-    pub fills-mentioned : (at : Cell) (value : Value) (mention : Mention) → get program.cells at ≡ Some value → Contains (mentions value) mention
+    pub fills-mentioned : (at : Cell) (value : Value) (mention : Mention) → get program.cells at ≡ Some value
+        → Contains (mentions value) mention
         → fills at.id mention.role (get program.known mention.id) ≡ true
     fills-mentioned at value mention holds stands = passing-stands
         (λ (mention : Mention). fills at.id mention.role (get program.known mention.id)) (mentions value) mention

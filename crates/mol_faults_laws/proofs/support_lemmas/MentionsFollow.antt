@@ -44,7 +44,8 @@ module _ (P : Mention → Type 0) where
 abbrev pub argument_mentions : Argument → List Mention
 argument_mentions = fold-Argument (List Mention) (List Mention) mentioning.expr_step mentioning.argument_step
 
-mentions-is : (x : IExpr-F IExpr Argument) → expr_mentions (roll-IExpr x) ≡ mentioning.expr_step (map-IExpr _ _ _ _ expr_mentions argument_mentions x)
+mentions-is : (x : IExpr-F IExpr Argument)
+    → expr_mentions (roll-IExpr x) ≡ mentioning.expr_step (map-IExpr _ _ _ _ expr_mentions argument_mentions x)
 mentions-is x = fold-roll-IExpr (List Mention) (List Mention) mentioning.expr_step mentioning.argument_step x
 
 pub argument-mentions : (argument : Argument) → argument_mentions argument ≡ expr_mentions argument.value
@@ -58,7 +59,8 @@ tidied-is present bare x = fold-roll-IExpr IExpr Argument (tidying.expr_step pre
 -- the argument for a parameter, among one more
 value-step : (present : Id → List Param) (bare : Id → Option Id) (argument : Argument) (args : List Argument) (param : Param)
     → value_of (map (tidy_argument present bare) (argument ∷ args)) param
-    ≡ (if same_id param.id argument.param then tidy_expr present bare argument.value else value_of (map (tidy_argument present bare) args) param)
+    ≡ (if same_id param.id argument.param then tidy_expr present bare argument.value
+    else value_of (map (tidy_argument present bare) args) param)
 value-step present bare argument args param =
     ap (λ (a : Argument). value_of (a ∷ map (tidy_argument present bare) args) param) (argument_is present bare argument)
 
@@ -126,7 +128,8 @@ module _ (here there : Id → List Param) (near far : Id → Option Id) (P : Men
   said args = joined (map argument_mentions (arguments args))
 
   value-follows : (args : List WithArgument) (param : Param) → Each Agrees (said args)
-      → Each P (expr_mentions (value_of (map gb (arguments args)) param)) → Each P (expr_mentions (value_of (map ga (arguments args)) param))
+      → Each P (expr_mentions (value_of (map gb (arguments args)) param))
+      → Each P (expr_mentions (value_of (map ga (arguments args)) param))
   value-follows [] param agree each = each
   value-follows (p ∷ args) param agree each =
       subst (λ e. Each P (expr_mentions e)) (sym (value-step here near p.0 (arguments args) param))
@@ -136,7 +139,8 @@ module _ (here there : Id → List Param) (near far : Id → Option Id) (P : Men
       own : Each Agrees (expr_mentions p.0.value)
       own = subst (Each Agrees) (argument-mentions p.0) (front Agrees (argument_mentions p.0) (said args) agree)
 
-      by : (Each P (expr_mentions (value_of (map gb (arguments args)) param)) → Each P (expr_mentions (value_of (map ga (arguments args)) param)))
+      by : (Each P (expr_mentions (value_of (map gb (arguments args)) param))
+          → Each P (expr_mentions (value_of (map ga (arguments args)) param)))
           → (b : Bool) → Each P (expr_mentions (if b then tb p.0.value else value_of (map gb (arguments args)) param))
           → Each P (expr_mentions (if b then ta p.0.value else value_of (map ga (arguments args)) param))
       by later true h = p.1.holds own h
@@ -169,7 +173,8 @@ module _ (here there : Id → List Param) (near far : Id → Option Id) (P : Men
   }
 
   -- the name of the method, and then its arguments
-  pub called : {role : Role} (method : Id) → IsCalled role → {said new old : List Mention} → (here method ≡ there method → Follows said new old)
+  pub called : {role : Role} (method : Id) → IsCalled role → {said new old : List Mention}
+      → (here method ≡ there method → Follows said new old)
       → Follows (record { role = role; id = method } ∷ said) (record { role = role; id = method } ∷ new)
       (record { role = role; id = method } ∷ old)
   called method is after = record { holds = λ agree each. (each.0, (after (agree.0 is)).holds agree.1 each.1) }
@@ -269,7 +274,8 @@ module _ (here there : Id → List Param) (near far : Id → Option Id) (P : Men
       (sym (exprs.rolls-OutsideCall name (map ta (ones es)))) (sym (exprs.rolls-OutsideCall name (map tb (ones es))))
       (all-follow es)
   layer (IExpr-F.OutsideSuperCall name es) =
-      from (IExpr-F.OutsideSuperCall name (ones es)) (IExpr-F.OutsideSuperCall name (map ta (ones es))) (IExpr-F.OutsideSuperCall name (map tb (ones es)))
+      from (IExpr-F.OutsideSuperCall name (ones es)) (IExpr-F.OutsideSuperCall name (map ta (ones es)))
+      (IExpr-F.OutsideSuperCall name (map tb (ones es)))
       (sym (exprs.rolls-OutsideSuperCall name (map ta (ones es)))) (sym (exprs.rolls-OutsideSuperCall name (map tb (ones es))))
       (all-follow es)
   layer (IExpr-F.NewOutside ty es) =
@@ -277,7 +283,8 @@ module _ (here there : Id → List Param) (near far : Id → Option Id) (P : Men
       (sym (exprs.rolls-NewOutside ty (map ta (ones es)))) (sym (exprs.rolls-NewOutside ty (map tb (ones es))))
       (in-turn (same (type_mentions ty) (type_mentions ty)) (all-follow es))
   layer (IExpr-F.NewArray ty es pairs) =
-      from (IExpr-F.NewArray ty (ones es) pairs) (IExpr-F.NewArray ty (map ta (ones es)) pairs) (IExpr-F.NewArray ty (map tb (ones es)) pairs)
+      from (IExpr-F.NewArray ty (ones es) pairs) (IExpr-F.NewArray ty (map ta (ones es)) pairs)
+      (IExpr-F.NewArray ty (map tb (ones es)) pairs)
       (sym (exprs.rolls-NewArray ty (map ta (ones es)) pairs)) (sym (exprs.rolls-NewArray ty (map tb (ones es)) pairs))
       (in-turn (same (type_mentions ty) (type_mentions ty)) (all-follow es))
   layer (IExpr-F.ArrayLit ty es) =
@@ -289,28 +296,39 @@ module _ (here there : Id → List Param) (near far : Id → Option Id) (P : Men
       (sym (exprs.rolls-Braces (map ta (ones es)))) (sym (exprs.rolls-Braces (map tb (ones es))))
       (all-follow es)
   layer (IExpr-F.OutsideCallOn name e es) =
-      from (IExpr-F.OutsideCallOn name e.0 (ones es)) (IExpr-F.OutsideCallOn name (ta e.0) (map ta (ones es))) (IExpr-F.OutsideCallOn name (tb e.0) (map tb (ones es)))
+      from (IExpr-F.OutsideCallOn name e.0 (ones es)) (IExpr-F.OutsideCallOn name (ta e.0) (map ta (ones es)))
+      (IExpr-F.OutsideCallOn name (tb e.0) (map tb (ones es)))
       (sym (exprs.rolls-OutsideCallOn name (ta e.0) (map ta (ones es)))) (sym (exprs.rolls-OutsideCallOn name (tb e.0) (map tb (ones es))))
       (in-turn e.1 (all-follow es))
   layer (IExpr-F.Call method args) =
-      from (IExpr-F.Call method (arguments args)) (IExpr-F.Call method (called_by here method (map ga (arguments args)))) (IExpr-F.Call method (called_by there method (map gb (arguments args))))
-      (sym (exprs.rolls-Call method (called_by here method (map ga (arguments args))))) (sym (exprs.rolls-Call method (called_by there method (map gb (arguments args)))))
+      from (IExpr-F.Call method (arguments args)) (IExpr-F.Call method (called_by here method (map ga (arguments args))))
+      (IExpr-F.Call method (called_by there method (map gb (arguments args))))
+      (sym (exprs.rolls-Call method (called_by here method (map ga (arguments args)))))
+      (sym (exprs.rolls-Call method (called_by there method (map gb (arguments args)))))
       (called method (inl refl) (λ alike. call-follows method args alike))
   layer (IExpr-F.StaticCall method args) =
-      from (IExpr-F.StaticCall method (arguments args)) (IExpr-F.StaticCall method (called_by here method (map ga (arguments args)))) (IExpr-F.StaticCall method (called_by there method (map gb (arguments args))))
-      (sym (exprs.rolls-StaticCall method (called_by here method (map ga (arguments args))))) (sym (exprs.rolls-StaticCall method (called_by there method (map gb (arguments args)))))
+      from (IExpr-F.StaticCall method (arguments args)) (IExpr-F.StaticCall method (called_by here method (map ga (arguments args))))
+      (IExpr-F.StaticCall method (called_by there method (map gb (arguments args))))
+      (sym (exprs.rolls-StaticCall method (called_by here method (map ga (arguments args)))))
+      (sym (exprs.rolls-StaticCall method (called_by there method (map gb (arguments args)))))
       (called method (inr (inl refl)) (λ alike. call-follows method args alike))
   layer (IExpr-F.SuperCall method args) =
-      from (IExpr-F.SuperCall method (arguments args)) (IExpr-F.SuperCall method (called_by here method (map ga (arguments args)))) (IExpr-F.SuperCall method (called_by there method (map gb (arguments args))))
-      (sym (exprs.rolls-SuperCall method (called_by here method (map ga (arguments args))))) (sym (exprs.rolls-SuperCall method (called_by there method (map gb (arguments args)))))
+      from (IExpr-F.SuperCall method (arguments args)) (IExpr-F.SuperCall method (called_by here method (map ga (arguments args))))
+      (IExpr-F.SuperCall method (called_by there method (map gb (arguments args))))
+      (sym (exprs.rolls-SuperCall method (called_by here method (map ga (arguments args)))))
+      (sym (exprs.rolls-SuperCall method (called_by there method (map gb (arguments args)))))
       (called method (inl refl) (λ alike. call-follows method args alike))
   layer (IExpr-F.New method args) =
-      from (IExpr-F.New method (arguments args)) (IExpr-F.New method (called_by here method (map ga (arguments args)))) (IExpr-F.New method (called_by there method (map gb (arguments args))))
-      (sym (exprs.rolls-New method (called_by here method (map ga (arguments args))))) (sym (exprs.rolls-New method (called_by there method (map gb (arguments args)))))
+      from (IExpr-F.New method (arguments args)) (IExpr-F.New method (called_by here method (map ga (arguments args))))
+      (IExpr-F.New method (called_by there method (map gb (arguments args))))
+      (sym (exprs.rolls-New method (called_by here method (map ga (arguments args)))))
+      (sym (exprs.rolls-New method (called_by there method (map gb (arguments args)))))
       (called method (inr (inr refl)) (λ alike. call-follows method args alike))
   layer (IExpr-F.CallOn method e args) =
-      from (IExpr-F.CallOn method e.0 (arguments args)) (IExpr-F.CallOn method (ta e.0) (called_by here method (map ga (arguments args)))) (IExpr-F.CallOn method (tb e.0) (called_by there method (map gb (arguments args))))
-      (sym (exprs.rolls-CallOn method (ta e.0) (called_by here method (map ga (arguments args))))) (sym (exprs.rolls-CallOn method (tb e.0) (called_by there method (map gb (arguments args)))))
+      from (IExpr-F.CallOn method e.0 (arguments args)) (IExpr-F.CallOn method (ta e.0) (called_by here method (map ga (arguments args))))
+      (IExpr-F.CallOn method (tb e.0) (called_by there method (map gb (arguments args))))
+      (sym (exprs.rolls-CallOn method (ta e.0) (called_by here method (map ga (arguments args)))))
+      (sym (exprs.rolls-CallOn method (tb e.0) (called_by there method (map gb (arguments args)))))
       (called method (inl refl) (λ alike. in-turn e.1 (call-follows method args alike)))
 
   pub expr-followed : (e : IExpr) → IsFollowed e

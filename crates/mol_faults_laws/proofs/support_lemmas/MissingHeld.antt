@@ -111,7 +111,8 @@ module _ (whole part : Program) (rules : IsProgram whole) (own : IsProgram part)
         (holds (cell target slots.Live) (life_of_missing (own_life (ap (λ o. has_slot o slots.Live) in-whole ∙ has))))) ∙ lives_here
 
   -- a target that lives in the part lives in the whole
-  lives-back : ((method : Id) → get whole.known target ≡ Some (knowns.Param method) → ⊥) → lives part target ≡ true → lives whole target ≡ true
+  lives-back : ((method : Id) → get whole.known target ≡ Some (knowns.Param method) → ⊥) → lives part target ≡ true
+      → lives whole target ≡ true
   lives-back never lives_here = by (get part.known target) refl where
     method-back : lives_method part target ≡ true → lives_method whole target ≡ true
     method-back lives_there =
@@ -155,9 +156,12 @@ module _ (whole part : Program) (rules : IsProgram whole) (own : IsProgram part)
 
   there-back : (role : Role) → fills at.id role (get whole.known target) ≡ true → is_there part at.id role target ≡ true
       → is_there whole at.id role target ≡ true
-  there-back a_class fill is = lives-back (λ method. never-param at.id a_class (get whole.known target) method (λ e. absurd cc) (λ e. absurd cc) fill) is
-  there-back a_field fill is = lives-back (λ method. never-param at.id a_field (get whole.known target) method (λ e. absurd cc) (λ e. absurd cc) fill) is
-  there-back a_method fill is = lives-back (λ method. never-param at.id a_method (get whole.known target) method (λ e. absurd cc) (λ e. absurd cc) fill) is
+  there-back a_class fill is =
+      lives-back (λ method. never-param at.id a_class (get whole.known target) method (λ e. absurd cc) (λ e. absurd cc) fill) is
+  there-back a_field fill is =
+      lives-back (λ method. never-param at.id a_field (get whole.known target) method (λ e. absurd cc) (λ e. absurd cc) fill) is
+  there-back a_method fill is =
+      lives-back (λ method. never-param at.id a_method (get whole.known target) method (λ e. absurd cc) (λ e. absurd cc) fill) is
   there-back a_called_method fill is =
       lives-back (λ method. never-param at.id a_called_method (get whole.known target) method (λ e. absurd cc) (λ e. absurd cc) fill) is
   there-back a_static_method fill is =
@@ -191,12 +195,14 @@ module _ (whole part : Program) (rules : IsProgram whole) (own : IsProgram part)
     gone = gone-part;
   }))
 
-  agree : Each (λ (mention : Mention). IsCalled mention.role → params_at whole mention.id ≡ params_at part mention.id) (mentions fault.value)
+  agree : Each (λ (mention : Mention). IsCalled mention.role → params_at whole mention.id ≡ params_at part mention.id)
+      (mentions fault.value)
   agree = stands-each _ (mentions fault.value) (λ mention stands called. ap params_in (holds (cell mention.id slots.Params)
       (called_in fault.holds (record { role = mention.role; mentioned = stands; called = called }))))
 
   -- a class that is missed is created by its default constructor in the part too
-  still-default : (class constructor : Id) → record { role = a_class; id = class } ≡ missed → bare_constructor part class ≡ Some constructor → ⊥
+  still-default : (class constructor : Id) → record { role = a_class; id = class } ≡ missed
+      → bare_constructor part class ≡ Some constructor → ⊥
   still-default class constructor same is = clean.present (cell made.declaration slots.Owner) class (record {
     owner_lives = decl-lives part made.declaration constructor made.declares ∙ made.declaration_lives;
     value = values.Owner class;

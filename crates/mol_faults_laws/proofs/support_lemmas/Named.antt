@@ -109,7 +109,8 @@ listed-mentioned param (p ∷ params) is = by (same_id param p.id) refl is (list
       → (list_any (λ (p : Param). same_id param p.id) params ≡ true → Contains (mentions (values.Params params)) (mention param))
       → Contains (mentions (values.Params (p ∷ params))) (mention param)
   by true same so more = in_front (param_mentions p) (mentions (values.Params params)) (mention param)
-      (subst (λ id. Contains (param_mentions p) (mention id)) (sym (id_tied param p.id same)) (stands_first (mention p.id) (type_mentions p.ty)))
+      (subst (λ id. Contains (param_mentions p) (mention id)) (sym (id_tied param p.id same))
+      (stands_first (mention p.id) (type_mentions p.ty)))
   by false other so more = behind (param_mentions p) (mentions (values.Params params)) (mention param) (more so)
 
 pub param-named : (o : Option Value) (param : Id) → list_any (λ (p : Param). same_id param p.id) (params_in o) ≡ true

@@ -134,10 +134,13 @@ module _ (whole part : Program) (rules : IsProgram whole) (own : IsProgram part)
     package_same = ap package_in (of-other slots.Package (1, omega arith, refl))
 
     full : full_of whole (program_class class) ≡ full_of part (program_class class)
-    full = λ i. joined (package_in (of-class slots.Package (1, omega arith, refl) i)) (name_in (of-class slots.Name (2, omega arith, refl) i) ∷ [])
+    full = λ i. joined (package_in (of-class slots.Package (1, omega arith, refl) i))
+        (name_in (of-class slots.Name (2, omega arith, refl) i) ∷ [])
 
-    by : (package_at whole inside ≡ full_of whole (program_class class)) ⊎ BeginsWith (package_at whole inside) (full_of whole (program_class class))
-        → (package_at part inside ≡ full_of part (program_class class)) ⊎ BeginsWith (package_at part inside) (full_of part (program_class class))
+    by : (package_at whole inside ≡ full_of whole (program_class class))
+        ⊎ BeginsWith (package_at whole inside) (full_of whole (program_class class))
+        → (package_at part inside ≡ full_of part (program_class class))
+        ⊎ BeginsWith (package_at part inside) (full_of part (program_class class))
     by (inl is) = inl (sym package_same ∙ is ∙ full)
     by (inr begins) = inr (subst (λ name. BeginsWith name (full_of part (program_class class))) package_same
         (subst (BeginsWith (package_at whole inside)) full begins))

@@ -90,7 +90,8 @@ module _ (whole part : Program) (rules : IsProgram whole) (own : IsProgram part)
       apart = fault.alike.apart;
       named = sym (name-held first fault.first_method fault.first_owner fault.first_kind fault.first_lives of-first) ∙ fault.alike.named
           ∙ name-held second fault.second_method fault.second_owner fault.second_kind fault.second_lives of-second;
-      as_many = sym (arity-held first fault.first_method fault.first_owner fault.first_kind fault.first_lives of-first) ∙ fault.alike.as_many
+      as_many =
+          sym (arity-held first fault.first_method fault.first_owner fault.first_kind fault.first_lives of-first) ∙ fault.alike.as_many
           ∙ arity-held second fault.second_method fault.second_owner fault.second_kind fault.second_lives of-second;
     };
     related = by fault.related;

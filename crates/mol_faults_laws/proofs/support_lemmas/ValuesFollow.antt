@@ -49,9 +49,11 @@ module _ (present : Id → List Param) (bare : Id → Option Id) where
   else-is x = fold-roll-IElse IElse IStmtNode IBlock IIf IStmt (tidying.else_step present bare) (tidying.node_step present bare)
       (tidying.block_step present bare) (tidying.if_step present bare) (tidying.statement_step present bare) x
 
-  block-is : (items : List IStmt) (tail : _) → tidy_block present bare (block_of items tail) ≡ block_of (map (tidy_statement present bare) items) tail
+  block-is : (items : List IStmt) (tail : _)
+      → tidy_block present bare (block_of items tail) ≡ block_of (map (tidy_statement present bare) items) tail
   block-is items tail = fold-roll-IBlock IElse IStmtNode IBlock IIf IStmt (tidying.else_step present bare) (tidying.node_step present bare)
-      (tidying.block_step present bare) (tidying.if_step present bare) (tidying.statement_step present bare) (record { items = items; tail = tail })
+      (tidying.block_step present bare) (tidying.if_step present bare) (tidying.statement_step present bare)
+      (record { items = items; tail = tail })
 
   if-is : (test : IExpr) (then : IBlock) (rest : IElse) → tidy_if present bare (branch_of test then rest)
       ≡ branch_of (tidy_expr present bare test) (tidy_block present bare then) (tidy_else present bare rest)
@@ -61,19 +63,22 @@ module _ (present : Id → List Param) (bare : Id → Option Id) where
 
   statement-is : (notes : _) (node : IStmtNode) → tidy_statement present bare (roll-IStmt (record { notes = notes; node = node }))
       ≡ roll-IStmt (record { notes = notes; node = tidy_node present bare node })
-  statement-is notes node = fold-roll-IStmt IElse IStmtNode IBlock IIf IStmt (tidying.else_step present bare) (tidying.node_step present bare)
+  statement-is notes node =
+      fold-roll-IStmt IElse IStmtNode IBlock IIf IStmt (tidying.else_step present bare) (tidying.node_step present bare)
       (tidying.block_step present bare) (tidying.if_step present bare) (tidying.statement_step present bare)
       (record { notes = notes; node = node })
 
 abbrev mentions_of : IStmtNode-F IElse IStmtNode IBlock IIf IStmt → List Mention
-mentions_of x = mentioning.node_step (map-IStmtNode _ _ _ _ _ _ _ _ _ _ else_mentions node_mentions block_mentions if_mentions statement_mentions x)
+mentions_of x =
+    mentioning.node_step (map-IStmtNode _ _ _ _ _ _ _ _ _ _ else_mentions node_mentions block_mentions if_mentions statement_mentions x)
 
 mentions-node : (x : IStmtNode-F IElse IStmtNode IBlock IIf IStmt) → node_mentions (roll-IStmtNode x) ≡ mentions_of x
 mentions-node x = fold-roll-IStmtNode Mentioned Mentioned Mentioned Mentioned Mentioned mentioning.else_step mentioning.node_step
     mentioning.block_step mentioning.if_step mentioning.statement_step x
 
 abbrev else_mentions_of : IElse-F IElse IStmtNode IBlock IIf IStmt → List Mention
-else_mentions_of x = mentioning.else_step (map-IElse _ _ _ _ _ _ _ _ _ _ else_mentions node_mentions block_mentions if_mentions statement_mentions x)
+else_mentions_of x =
+    mentioning.else_step (map-IElse _ _ _ _ _ _ _ _ _ _ else_mentions node_mentions block_mentions if_mentions statement_mentions x)
 
 mentions-else : (x : IElse-F IElse IStmtNode IBlock IIf IStmt) → else_mentions (roll-IElse x) ≡ else_mentions_of x
 mentions-else x = fold-roll-IElse Mentioned Mentioned Mentioned Mentioned Mentioned mentioning.else_step mentioning.node_step
@@ -88,7 +93,8 @@ mentions-if : (test : IExpr) (then : IBlock) (rest : IElse)
 mentions-if test then rest = fold-roll-IIf Mentioned Mentioned Mentioned Mentioned Mentioned mentioning.else_step mentioning.node_step
     mentioning.block_step mentioning.if_step mentioning.statement_step (record { test = test; then = then; rest = rest })
 
-mentions-statement : (notes : _) (node : IStmtNode) → statement_mentions (roll-IStmt (record { notes = notes; node = node })) ≡ node_mentions node
+mentions-statement : (notes : _) (node : IStmtNode)
+    → statement_mentions (roll-IStmt (record { notes = notes; node = node })) ≡ node_mentions node
 mentions-statement notes node = fold-roll-IStmt Mentioned Mentioned Mentioned Mentioned Mentioned mentioning.else_step mentioning.node_step
     mentioning.block_step mentioning.if_step mentioning.statement_step (record { notes = notes; node = node })
 
@@ -131,10 +137,12 @@ module _ (here there : Id → List Param) (near far : Id → Option Id) (P : Men
   names-follow [] = keep [] []
   names-follow (d ∷ ds) = turn (maybe-follow d.init) (names-follow ds)
 
-  let-follows : (declared : ILet) → Follow (let_mentions declared) (let_mentions (tidy_let there far declared)) (let_mentions (tidy_let here near declared))
+  let-follows : (declared : ILet)
+      → Follow (let_mentions declared) (let_mentions (tidy_let there far declared)) (let_mentions (tidy_let here near declared))
   let-follows declared = turn (keep (type_mentions declared.ty) (type_mentions declared.ty)) (names-follow declared.names)
 
-  start-follows : (start : IForStart) → Follow (start_mentions start) (start_mentions (tidy_start there far start)) (start_mentions (tidy_start here near start))
+  start-follows : (start : IForStart)
+      → Follow (start_mentions start) (start_mentions (tidy_start there far start)) (start_mentions (tidy_start here near start))
   start-follows starts.None = keep [] []
   start-follows (starts.Let declared) = let-follows declared
   start-follows (starts.Do es) = exprs-follow es
@@ -154,7 +162,8 @@ module _ (here there : Id → List Param) (near far : Id → Option Id) (P : Men
   FollowsIf b = Follow (if_mentions b) (if_mentions (tidy_if there far b)) (if_mentions (tidy_if here near b))
 
   abbrev FollowsStatement : IStmt → Type 0
-  FollowsStatement s = Follow (statement_mentions s) (statement_mentions (tidy_statement there far s)) (statement_mentions (tidy_statement here near s))
+  FollowsStatement s =
+      Follow (statement_mentions s) (statement_mentions (tidy_statement there far s)) (statement_mentions (tidy_statement here near s))
 
   abbrev WithElse : Type 0
   WithElse = (e : IElse) × FollowsElse e
@@ -172,11 +181,14 @@ module _ (here there : Id → List Param) (near far : Id → Option Id) (P : Men
   WithStatement = (s : IStmt) × FollowsStatement s
 
   -- by equations of the three lists
-  by : {said new old more newer older : List Mention} → said ≡ more → new ≡ newer → old ≡ older → Follow more newer older → Follow said new old
+  by : {said new old more newer older : List Mention} → said ≡ more → new ≡ newer → old ≡ older → Follow more newer older
+      → Follow said new old
   by {said} {new} {old} {more} {newer} {older} first second third follows =
-      subst (λ xs. Follow xs new old) (sym first) (subst (λ xs. Follow more xs old) (sym second) (subst (λ xs. Follow more newer xs) (sym third) follows))
+      subst (λ xs. Follow xs new old) (sym first)
+      (subst (λ xs. Follow more xs old) (sym second) (subst (λ xs. Follow more newer xs) (sym third) follows))
 
-  from : (x z w : IStmtNode-F IElse IStmtNode IBlock IIf IStmt) → step_of here near x ≡ roll-IStmtNode z → step_of there far x ≡ roll-IStmtNode w
+  from : (x z w : IStmtNode-F IElse IStmtNode IBlock IIf IStmt) → step_of here near x ≡ roll-IStmtNode z
+      → step_of there far x ≡ roll-IStmtNode w
       → Follow (mentions_of x) (mentions_of w) (mentions_of z) → FollowsNode (roll-IStmtNode x)
   from x z w first second follows = by (mentions-node x) (ap node_mentions (node-is there far x ∙ second) ∙ mentions-node w)
       (ap node_mentions (node-is here near x ∙ first) ∙ mentions-node z) follows
@@ -209,14 +221,17 @@ module _ (here there : Id → List Param) (near far : Id → Option Id) (P : Men
       (sym (nodes.rolls-While (ta test) (tidy_block here near block.0))) (sym (nodes.rolls-While (tb test) (tidy_block there far block.0)))
       (turn (follow test) block.1)
   node-follows (IStmtNode-F.For start test steps block) =
-      from (IStmtNode-F.For start test steps block.0) (IStmtNode-F.For (tidy_start here near start) (option_map ta test) (map ta steps) (tidy_block here near block.0))
+      from (IStmtNode-F.For start test steps block.0)
+      (IStmtNode-F.For (tidy_start here near start) (option_map ta test) (map ta steps) (tidy_block here near block.0))
       (IStmtNode-F.For (tidy_start there far start) (option_map tb test) (map tb steps) (tidy_block there far block.0))
-      (sym (nodes.rolls-For (tidy_start here near start) (option_map ta test) (map ta steps) (tidy_block here near block.0))) (sym (nodes.rolls-For (tidy_start there far start) (option_map tb test) (map tb steps) (tidy_block there far block.0)))
+      (sym (nodes.rolls-For (tidy_start here near start) (option_map ta test) (map ta steps) (tidy_block here near block.0)))
+      (sym (nodes.rolls-For (tidy_start there far start) (option_map tb test) (map tb steps) (tidy_block there far block.0)))
       (turn (turn (turn (start-follows start) (maybe-follow test)) (exprs-follow steps)) block.1)
   node-follows (IStmtNode-F.Each is_final ty name e block) =
       from (IStmtNode-F.Each is_final ty name e block.0) (IStmtNode-F.Each is_final ty name (ta e) (tidy_block here near block.0))
       (IStmtNode-F.Each is_final ty name (tb e) (tidy_block there far block.0))
-      (sym (nodes.rolls-Each is_final ty name (ta e) (tidy_block here near block.0))) (sym (nodes.rolls-Each is_final ty name (tb e) (tidy_block there far block.0)))
+      (sym (nodes.rolls-Each is_final ty name (ta e) (tidy_block here near block.0)))
+      (sym (nodes.rolls-Each is_final ty name (tb e) (tidy_block there far block.0)))
       (turn (turn (keep (type_mentions ty) (type_mentions ty)) (follow e)) block.1)
   node-follows (IStmtNode-F.Return e) =
       from (IStmtNode-F.Return e) (IStmtNode-F.Return (option_map ta e))
@@ -244,10 +259,13 @@ module _ (here there : Id → List Param) (near far : Id → Option Id) (P : Men
       (sym nodes.rolls-Empty) (sym nodes.rolls-Empty)
       (keep [] [])
   node-follows (IStmtNode-F.Super constructor args) =
-      from (IStmtNode-F.Super constructor args) (IStmtNode-F.Super constructor (called_by here there near far P made here constructor (map (tidy_argument here near) args)))
+      from (IStmtNode-F.Super constructor args)
+      (IStmtNode-F.Super constructor (called_by here there near far P made here constructor (map (tidy_argument here near) args)))
       (IStmtNode-F.Super constructor (called_by here there near far P made there constructor (map (tidy_argument there far) args)))
-      (sym (nodes.rolls-Super constructor (called_by here there near far P made here constructor (map (tidy_argument here near) args)))) (sym (nodes.rolls-Super constructor (called_by here there near far P made there constructor (map (tidy_argument there far) args))))
-      (called here there near far P made constructor (inr (inr refl)) (λ alike. call-followed here there near far P made constructor args alike))
+      (sym (nodes.rolls-Super constructor (called_by here there near far P made here constructor (map (tidy_argument here near) args))))
+      (sym (nodes.rolls-Super constructor (called_by here there near far P made there constructor (map (tidy_argument there far) args))))
+      (called here there near far P made constructor (inr (inr refl))
+      (λ alike. call-followed here there near far P made constructor args alike))
   node-follows (IStmtNode-F.SuperDefault class) =
       from (IStmtNode-F.SuperDefault class) (IStmtNode-F.SuperDefault class)
       (IStmtNode-F.SuperDefault class)
@@ -261,7 +279,8 @@ module _ (here there : Id → List Param) (near far : Id → Option Id) (P : Men
 
   -- ---- what follows `else`
 
-  from-else : (x z w : IElse-F IElse IStmtNode IBlock IIf IStmt) → else_step_of here near x ≡ roll-IElse z → else_step_of there far x ≡ roll-IElse w
+  from-else : (x z w : IElse-F IElse IStmtNode IBlock IIf IStmt) → else_step_of here near x ≡ roll-IElse z
+      → else_step_of there far x ≡ roll-IElse w
       → Follow (else_mentions_of x) (else_mentions_of w) (else_mentions_of z) → FollowsElse (roll-IElse x)
   from-else x z w first second follows = by (mentions-else x) (ap else_mentions (else-is there far x ∙ second) ∙ mentions-else w)
       (ap else_mentions (else-is here near x ∙ first) ∙ mentions-else z) follows
@@ -270,7 +289,8 @@ module _ (here there : Id → List Param) (near far : Id → Option Id) (P : Men
       → FollowsElse (roll-IElse (map-IElse _ _ _ _ _ _ _ _ _ _ (λ p. p.0) (λ p. p.0) (λ p. p.0) (λ p. p.0) (λ p. p.0) y))
   else-follows IElse-F.None = from-else IElse-F.None IElse-F.None IElse-F.None (sym elses.rolls-None) (sym elses.rolls-None) (keep [] [])
   else-follows (IElse-F.IElse::Block b) =
-      from-else (IElse-F.IElse::Block b.0) (IElse-F.IElse::Block (tidy_block here near b.0)) (IElse-F.IElse::Block (tidy_block there far b.0))
+      from-else (IElse-F.IElse::Block b.0) (IElse-F.IElse::Block (tidy_block here near b.0))
+      (IElse-F.IElse::Block (tidy_block there far b.0))
       (sym (elses.rolls-Block (tidy_block here near b.0))) (sym (elses.rolls-Block (tidy_block there far b.0))) b.1
   else-follows (IElse-F.IElse::If b) =
       from-else (IElse-F.IElse::If b.0) (IElse-F.IElse::If (tidy_if here near b.0)) (IElse-F.IElse::If (tidy_if there far b.0))
@@ -289,14 +309,18 @@ module _ (here there : Id → List Param) (near far : Id → Option Id) (P : Men
 
   block-follows : (items : List WithStatement) (tail : _) → FollowsBlock (block_of (statements items) tail)
   block-follows items tail = by (mentions-block (statements items) tail)
-      (ap block_mentions (block-is there far (statements items) tail) ∙ mentions-block (map (tidy_statement there far) (statements items)) tail)
-      (ap block_mentions (block-is here near (statements items) tail) ∙ mentions-block (map (tidy_statement here near) (statements items)) tail)
+      (ap block_mentions (block-is there far (statements items) tail)
+      ∙ mentions-block (map (tidy_statement there far) (statements items)) tail)
+      (ap block_mentions (block-is here near (statements items) tail)
+      ∙ mentions-block (map (tidy_statement here near) (statements items)) tail)
       (items-follow items)
 
   if-follows : (test : IExpr) (then : WithBlock) (rest : WithElse) → FollowsIf (branch_of test then.0 rest.0)
   if-follows test then rest = by (mentions-if test then.0 rest.0)
-      (ap if_mentions (if-is there far test then.0 rest.0) ∙ mentions-if (tb test) (tidy_block there far then.0) (tidy_else there far rest.0))
-      (ap if_mentions (if-is here near test then.0 rest.0) ∙ mentions-if (ta test) (tidy_block here near then.0) (tidy_else here near rest.0))
+      (ap if_mentions (if-is there far test then.0 rest.0)
+      ∙ mentions-if (tb test) (tidy_block there far then.0) (tidy_else there far rest.0))
+      (ap if_mentions (if-is here near test then.0 rest.0)
+      ∙ mentions-if (ta test) (tidy_block here near then.0) (tidy_else here near rest.0))
       (turn (turn (follow test) then.1) rest.1)
 
   statement-follows : (notes : _) (node : WithNode) → FollowsStatement (roll-IStmt (record { notes = notes; node = node.0 }))
