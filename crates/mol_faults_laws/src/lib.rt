@@ -1,9 +1,13 @@
-//! Each program has a first fault or is clean.
+//! Laws of the faults of programs: each program has a first fault or is clean; and a fault goes by the cells that it rests on.
 //!
-//! The call here computes nothing: it carries the law of the definitions of `mol_spell_rules` and `mol_faults`.
+//! The calls here compute nothing: they carry laws of the definitions of `mol_spell_rules` and `mol_faults`.
 #![tactic(auto)]
 
 ghost use Rattle.mol_faults_laws.specs.Laws.{FirstFaultTold};
+
+mod support;
+
+pub use support::faults_supported;
 
 /// The law of the first fault: each program is clean or has a first fault, and not both; and it has no two of these.
 #[tactic(auto, using(crate::proofs::EveryFault::first_fault_told))]

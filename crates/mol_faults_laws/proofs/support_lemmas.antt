@@ -1,0 +1,14 @@
+pub mod AddressesHeld
+pub mod ApartHeld
+pub mod Climbs
+pub mod CreationsMade
+pub mod Declared
+pub mod Held
+pub mod MentionsFollow
+pub mod MissingHeld
+pub mod Named
+pub mod NamesHeld
+pub mod OverridesHeld
+pub mod Supported
+pub mod ValuesFollow
+pub mod WaysClosed
