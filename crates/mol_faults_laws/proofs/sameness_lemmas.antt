@@ -15,6 +15,7 @@ pub mod Places
 pub mod Roles
 pub mod SimpleNames
 pub mod SpelledTypes
+pub mod StatementParts
 pub mod Statements
 pub mod Tidying
 pub mod Together
