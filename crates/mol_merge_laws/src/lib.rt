@@ -39,15 +39,16 @@ pub fn conflicts_determined()
     ensures { ConflictsDetermined }
 {}
 
-/// The law of parts: where two logs share no tag and apply to a base without dead entities, and no entries are in conflict, what each leaves
-/// is part of what both leave, if what the other one leaves is clean. A cell that one does not write holds then what the other one leaves.
+/// The law of parts: where two logs share no tag and apply to a base without dead entities, and no entries are in conflict, what each
+/// leaves is part of what both leave, if what the other one leaves is clean. A cell that one of two histories does not write holds in what
+/// both leave what the other one leaves there.
 #[tactic(auto, using(crate::proofs::PartsLeft::parts_of_united))]
 pub fn parts_of_united()
     ensures { PartsOfUnited }
 {}
 
 /// The law of faults: where two logs share no tag, each leaves a clean program of a base without dead entities, and no entries are in
-/// conflict, a fault names an entry of each log if no clean part of what both leave holds what it rests on.
+/// conflict, the conflict of a fault names an entry of each log, if no clean part of what both leave holds what the fault rests on.
 #[tactic(auto, using(crate::proofs::BadsNamed::bads_named))]
 pub fn bads_named()
     ensures { BadsNamed }
