@@ -1,4 +1,4 @@
--- Each conflict of two logs names an entry of either: of a pair by its writers, of a fault by what it rests on.
+-- Each conflict of two logs names an entry of each: of a pair by its writers, of a fault by what it rests on.
 use Rattle.std.proofs.Common.{◌≡◌, ◌⊎◌, inl, inr, Bool, true, false, List, [], ◌∷◌, ◌++◌, Contains, refl, sym, ap, subst, ◌∙◌, if◌then◌else◌}
 use Rattle.std.proofs.lemmas.List.{map-append}
 use Rattle.std.specs.List.{AllZip}

@@ -21,7 +21,7 @@ pub record BothLeaveClean (base : Program) (one other : Log) : Type 0 where
   pub clean_other : Clean (after base (history other))
 
 pub record ConflictsNameBoth : Type 0 where
-  -- Each of their conflicts names an entry of either, but for a name that is misread: that may come of what one log did alone.
+  -- Each of their conflicts names an entry of each, but for a name that is misread: that may come of what one log did alone.
   pub named : (base : Program) (one other : Log) (list : List Conflict) (conflict : Conflict) → BothLeaveClean base one other
       → AreConflicts base (history one) (history other) list → Contains list conflict → IsFalse (is_misread conflict.kind)
       → NamesBoth (history one) (history other) conflict

@@ -1,4 +1,4 @@
--- A fault of what two logs leave together names an entry of either, unless it comes of what one of them leaves alone.
+-- A fault of what two logs leave together names an entry of each, unless it comes of what one of them leaves alone.
 use Rattle.std.proofs.Common.{◌≡◌, ◌∙◌, inl, inr, refl, sym, ap, subst, true≢false, List, [], ◌∷◌, ◌++◌, Option, None, Some, Contains}
 use Rattle.std.proofs.lemmas.List.Elements.{Contains-append_left, Contains-append_right}
 use Rattle.std.specs.List.{flat_map}

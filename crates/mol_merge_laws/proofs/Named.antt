@@ -1,4 +1,4 @@
--- The conflict of a pair names an entry of either history.
+-- The conflict of a pair names an entry of each history.
 use Rattle.std.proofs.Common.{◌≡◌, ◌∙◌, refl, sym, ap, subst, true≢false, List, [], ◌∷◌, Option, None, Some, Contains, Ordering, Less, Equal, Greater, arith}
 use Rattle.std.proofs.lemmas.List.Elements.{Contains-append_right}
 use Rattle.std.specs.List.{list_any}
@@ -80,7 +80,7 @@ second-there one other Less is = (1, omega arith, refl)
 second-there one other Equal is = subst (Contains (one ∷ [])) (stamp_cmp-IsAntisymmetric one other is) (0, omega arith, refl)
 second-there one other Greater is = (0, omega arith, refl)
 
--- where two writers are there, the stamps of both name an entry of either history
+-- where two writers are there, the stamps of both name an entry of each history
 module _ (one other : History) (p q : Cell → Bool) (conflict : Conflict)
     (stamps : conflict.stamps ≡ stamps_of (last_writer p one) (last_writer q other)) where
   named-by : (o : Option Stamp) → last_writer p one ≡ o → IsSome o → (u : Option Stamp) → last_writer q other ≡ u → IsSome u

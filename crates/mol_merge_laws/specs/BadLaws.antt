@@ -23,7 +23,7 @@ RestsIn whole fault = (part : Program) → IsProgram part → IsLeftIn whole par
     → ((at : Cell) → Supports whole fault at → get whole.cells at ≡ get part.cells at) → ¬ Clean part
 
 pub record BadsNamed : Type 0 where
-  -- where each of two logs leaves a clean program, such a fault of what both leave names an entry of either
+  -- where each of two logs leaves a clean program, such a fault names an entry of each
   pub named : (base : Program) (one other : Log) → GoTogether base one other → Clean (after base (history one))
       → Clean (after base (history other)) → (fault : Kept) (conflict : Conflict) → IsBad base (history one) (history other) fault conflict
       → RestsIn (united base (history one) (history other)) (kept_fault fault) → NamesBoth (history one) (history other) conflict

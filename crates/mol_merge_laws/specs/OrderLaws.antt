@@ -21,7 +21,7 @@ pub record BothApply (base : Program) (one other : Log) : Type 0 where
   pub second : AppliesOn base (history other)
   pub apart : ShareNoTag one other
 
--- an order of the entries of both
+-- an order of the entries of both, which takes those of each in their own order
 pub record IsOrder (base : Program) (one other : Log) (entries : List Entry) : Type 0 where
   pub both : BothApply base one other
   pub order : Interleaves one.entries other.entries entries

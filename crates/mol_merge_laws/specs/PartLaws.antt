@@ -33,7 +33,7 @@ pub record IsLeftIn (whole part : Program) : Type 0 where
   -- and what of it lives in the whole lives in it
   pub life : (id : Id) (known : Known) → get part.known id ≡ Some known → IsTrue (is_living_entity whole id)
       → IsTrue (is_living_entity part id)
-  -- where both name one class as the owner or the superclass of what lives in the whole, that lives in the whole where it lives in the part
+  -- A class that both name as the owner or the superclass of what lives in the whole lives in the whole, if it lives in the part.
   pub above : (at : Cell) (value : Value) (class : Id) → (at.slot ≡ slots.Owner) ⊎ (at.slot ≡ slots.Super)
       → IsTrue (is_living_entity whole at.id) → get whole.cells at ≡ Some value → get part.cells at ≡ Some value
       → Contains (mentions value) (record { role = a_class; id = class }) → IsTrue (is_living_entity part class)

@@ -17,34 +17,38 @@ pub fn united_in_turn()
     ensures { UnitedInTurn }
 {}
 
-/// The law of orders: two logs that share no tag and apply to one base apply in every order of their entries. Where no entries are in
-/// conflict, each order leaves what is the same program.
+/// The law of orders: two logs that share no tag and apply to one base apply in every order that takes the entries of each in their own
+/// order. Where the base keeps the rules of programs and has no dead entity, and no entries are in conflict, each of these orders leaves
+/// what is the same program.
 #[tactic(auto, using(crate::proofs::EveryOrder::every_order))]
 pub fn every_order()
     ensures { EveryOrder }
 {}
 
-/// The law of pairs: of the entries of two logs that are in conflict there is one list, whichever log is given first, and each conflict
-/// names an entry of either log.
+/// The law of pairs: of the entries of two histories that are in conflict there is at most one list, whichever history is given first, and
+/// the conflict of each pair names an entry of each history. If no tag has entries of both, their conflicts do not go by that order either.
 #[tactic(auto, using(crate::proofs::Pairs::pairs_in_conflict))]
 pub fn pairs_in_conflict()
     ensures { PairsInConflict }
 {}
 
-/// The law of conflicts: two logs have one list of them, which is empty where no entries are in conflict and both leave a clean program.
+/// The law of conflicts: two histories have at most one list of them. The empty list is one exactly where no entries are in conflict and
+/// what both leave together is clean.
 #[tactic(auto, using(crate::proofs::Determined::conflicts_determined))]
 pub fn conflicts_determined()
     ensures { ConflictsDetermined }
 {}
 
-/// The law of parts: where no entries of two logs are in conflict, what either leaves is part of what both leave.
+/// The law of parts: where two logs share no tag and apply to a base without dead entities, and no entries are in conflict, what each
+/// leaves is part of what both leave, if what the other one leaves is clean. A cell that one of two histories does not write holds in what
+/// both leave what the other one leaves there.
 #[tactic(auto, using(crate::proofs::PartsLeft::parts_of_united))]
 pub fn parts_of_united()
     ensures { PartsOfUnited }
 {}
 
-/// The law of faults: where each of two logs leaves a clean program and no entries are in conflict, a fault of what both leave names an
-/// entry of either, if it has what it rests on in no clean part of that.
+/// The law of faults: where two logs share no tag, each leaves a clean program of a base without dead entities, and no entries are in
+/// conflict, the conflict of a fault names an entry of each log, if no clean part of what both leave holds what the fault rests on.
 #[tactic(auto, using(crate::proofs::BadsNamed::bads_named))]
 pub fn bads_named()
     ensures { BadsNamed }

@@ -1,19 +1,24 @@
 -- Worked conflicts: two logs rename one class; one log deletes the declaration of a method and the other one calls it.
-use Rattle.std.proofs.Common.{◌≡◌, refl, ℕ, false, List, [], ◌∷◌, None, Some, Less}
-use Rattle.std.specs.FinMap.{get}
-use Rattle.std.specs.Prelude.{codes, IsFalse}
+-- Then what is no conflict: a class that is dead after both logs, and one that both rename alike.
+use Rattle.std.proofs.Common.{◌≡◌, ◌∙◌, refl, sym, ap, true≢false, ℕ, false, List, [], ◌∷◌, Option, None, Some, Less}
+use Rattle.std.specs.FinMap.{get, insert, get-insert}
+use Rattle.std.specs.Prelude.{◌&&◌, codes, is_some, IsFalse}
 use Rattle.mol_base.specs.declared.ident.Id.{Id}
 use Rattle.mol_base.specs.declared.ident.Stamp.{Stamp}
 use Rattle.mol_faults_rules.specs.declared.conflict.ConflictKind.TheVariants.{Twice}
 use Rattle.mol_log_rules.specs.Histories.{Stamped, History, after}
 use Rattle.mol_merge_rules.specs.Conflicts.{pair_kind, pair_stamps, gone_stamps}
-use Rattle.mol_merge_rules.specs.PairConflicts.{twice, gone_changed, gone_used, pair_cmp}
+use Rattle.mol_merge_rules.specs.PairConflicts.{Pair, twice, gone_changed, gone_used, pair_cmp, IsTwice, IsGonePair, changed, used}
+use Rattle.mol_merge_rules.specs.PairConflicts.{IsPair, set_twice, gone_after_one, gone_after_other}
 use Rattle.mol_op.specs.Changes.{Write}
-use Rattle.mol_table_rules.specs.Life.{is_living_entity}
-use Rattle.mol_table_rules.specs.Program.{Program, cell}
+use Rattle.mol_table_rules.proofs.CellOrder.{cell_cmp-total}
+use Rattle.mol_table_rules.specs.Life.{entity_in, lives_as, is_living_entity}
+use Rattle.mol_table_rules.specs.Program.{Program, cell, is_yes}
 use Rattle.mol_values_types.specs.declared.cell.Cell.{Cell}
 use Rattle.mol_values_types.specs.declared.cell.Slot.TheVariants as slots
+use Rattle.mol_values_types.specs.declared.known.Known.{Known}
 use Rattle.mol_values_types.specs.declared.known.Known.TheVariants as knowns
+use Rattle.mol_values_types.specs.declared.value.Value.{Value}
 use Rattle.mol_values_types.specs.declared.value.Value.TheVariants as values
 
 abbrev of_base : ℕ → Id
@@ -79,7 +84,7 @@ method = of_base 12
 abbrev body : Cell
 body = cell (of_base 10) slots.Body
 
--- the third entry deletes the one declaration of the method, and the last one another member
+-- `ann@3` deletes the one declaration of the method, and `ann@4` another member
 abbrev deleted : History
 deleted =
     writing (stamp (codes "ann") 3) ((cell (of_base 6) slots.Live, values.Live false) ∷ [])
@@ -105,3 +110,51 @@ order_of_kinds = refl
 order_of_identities : pair_cmp (gone_used (of_base 2) (cell (of_base 9) slots.Body)) (gone_used (of_base 3) (cell (of_base 1) slots.Body))
     ≡ Less
 order_of_identities = refl
+
+-- ---- what is no pair
+
+-- what a pair of this form has to be
+abbrev asked : Program → History → History → Pair → Type 0
+asked base one other (twice at) = IsTwice base one other at
+asked base one other pair = Unit {0}
+
+asked-gone : (base : Program) (one other first second : History) (pair : Pair) → IsGonePair base one other pair
+    → asked base first second pair
+asked-gone base one other first second pair (changed at gone some) = tt
+asked-gone base one other first second pair (used gone lives is mentions) = tt
+
+asked-of : (base : Program) (one other : History) (pair : Pair) → IsPair base one other pair → asked base one other pair
+asked-of base one other pair (set_twice is) = is
+asked-of base one other pair (gone_after_one is) = asked-gone base one other one other pair is
+asked-of base one other pair (gone_after_other is) = asked-gone base other one one other pair is
+
+-- both logs rename the class, each to a name of its own, and delete it then
+abbrev closed : List ℕ → List ℕ → History
+closed tag name = renamed (stamp tag 1) name ∷ writing (stamp tag 2) ((cell (of_base 1) slots.Live, values.Live false) ∷ []) ∷ []
+
+dead : (base : Program) (tag name : List ℕ) → get base.known (of_base 1) ≡ Some knowns.Class
+    → is_living_entity (after base (closed tag name)) (of_base 1) ≡ false
+dead base tag name known =
+    ap (λ (o : Option Known). is_some (entity_in o) && lives_as (after base (closed tag name)) (of_base 1) o) known
+    ∙ ap is_yes (get-insert cell_cmp-total (insert base.cells class_name (values.Name name)) (cell (of_base 1) slots.Live)
+    (values.Live false) (cell (of_base 1) slots.Live))
+
+-- so it has two names, but is dead after both
+dead_after_both : (base : Program) → get base.known (of_base 1) ≡ Some knowns.Class
+    → ¬ IsPair base (closed (codes "ann") (codes "Basket")) (closed (codes "bob") (codes "Bag")) (twice class_name)
+dead_after_both base known is =
+    let both = asked-of base (closed (codes "ann") (codes "Basket")) (closed (codes "bob") (codes "Bag")) (twice class_name) is in
+    true≢false (sym both.lives_one ∙ dead base (codes "ann") (codes "Basket") known)
+
+-- both rename the class to one name
+abbrev to_basket_too : History
+to_basket_too = renamed (stamp (codes "bob") 1) (codes "Basket") ∷ []
+
+abbrev held : Option Value → Value
+held None = values.Body None
+held (Some value) = value
+
+one_name : (base : Program) → ¬ IsPair base to_basket to_basket_too (twice class_name)
+one_name base is =
+    let both = asked-of base to_basket to_basket_too (twice class_name) is in
+    both.differ (ap held (sym both.last_one ∙ both.last_other))

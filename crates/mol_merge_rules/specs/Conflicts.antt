@@ -48,8 +48,8 @@ stamps_of None other = option_to_list other
 abbrev pub gone_stamps : Program → History → Id → Option Stamp → List Stamp
 gone_stamps base history id user = stamps_of (life_writer (after base history) history id) user
 
--- Two last writers of the cell. For what is gone after one of the histories, the last writer there of whether it lives, and the last
--- writer in the other one of any cell of it, or of the cell that uses it.
+-- For a cell that is set twice: its last writer in each history. For what is gone after one of them: the last writer there of whether it
+-- lives, and in the other one the last writer of any cell of it, or of the cell that uses it.
 abbrev pub pair_stamps : Program → History → History → Pair → List Stamp
 pair_stamps base one other (twice at) = stamps_of (writer one at) (writer other at)
 pair_stamps base one other (gone_changed id) =
@@ -92,14 +92,15 @@ pub record ArePairConflicts (base : Program) (one other : History) (list : List 
 
 -- ---- faults of both together
 
--- A fault of what both leave, with the last writers, in either, of what it rests on.
+-- A fault as a conflict: with the last writers, in either history, of what it rests on in what both leave. That it is a fault of what both
+-- leave is asked of the list of all.
 pub record IsBad (base : Program) (one other : History) (fault : Fault) (conflict : Conflict) : Type 0 where
   pub kind : conflict.kind ≡ Bad fault
   pub cells : List Cell
   pub rests : IsSupport (united base one other) (kept_fault fault) cells
   pub stamps : conflict.stamps ≡ ascending_stamps (flat_map (writers one other) cells)
 
--- all of them, in the order of faults
+-- all faults of what both leave, in the order of faults
 pub record AreBads (base : Program) (one other : History) (list : List Conflict) : Type 0 where
   pub faults : List Fault
   pub are : AreFaults (united base one other) (map kept_fault faults)
@@ -120,12 +121,12 @@ pub data AreConflicts (base : Program) (one other : History) : List Conflict →
 abbrev pub NamesEntry : History → Conflict → Type 0
 NamesEntry history conflict = (entry : Stamped) × Contains history entry × Contains conflict.stamps entry.stamp
 
--- an entry of either
+-- an entry of each
 pub record NamesBoth (one other : History) (conflict : Conflict) : Type 0 where
   pub one_named : NamesEntry one conflict
   pub other_named : NamesEntry other conflict
 
--- a fault of a name that reads as something else may come of what one history did alone
+-- whether it is the fault of a name that reads as something else: that may come of what one history did alone
 abbrev pub is_misread : ConflictKind → Bool
 is_misread (Bad (Misread at number target)) = true
 is_misread other = false

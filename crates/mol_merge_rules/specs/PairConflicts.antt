@@ -1,4 +1,4 @@
--- Where entries of two histories over one base do not go together, and of what that is.
+-- Where entries of two histories over one base do not go together, and what that is about.
 use Rattle.std.specs.List.Sorted.{IsStrictlySortedBy}
 use Rattle.std.specs.Ordering.{nat_cmp, on, then_cmp}
 use Rattle.std.specs.Prelude.{◌≡◌, ◌≢◌, ◌↔◌, ℕ, IsTrue, IsFalse, IsSome, List, Contains, Some}
@@ -15,7 +15,7 @@ use Rattle.mol_values_types.specs.declared.cell.Cell.{Cell}
 use Rattle.mol_values_types.specs.declared.cell.Slot.TheVariants as slots
 use Rattle.mol_values_types.specs.declared.value.Value.{Value}
 
--- Of what a conflict of a pair is: a cell that is set twice; an entity that is gone, and is changed; one that is gone, and a cell in which
+-- What a pair conflict is about: a cell that is set twice; an entity that is gone, and is changed; one that is gone, and a cell in which
 -- it is used. The values and the stamps follow from that.
 pub data Pair : Type 0 where
   twice : Cell → Pair
@@ -49,7 +49,7 @@ pub record IsTwice (base : Program) (one other : History) (at : Cell) : Type 0 w
   pub last_other : last other at ≡ Some second
   pub differ : first ≢ second
 
--- an entity of the base, which is no parameter, does not live after the one, and lives after the other
+-- an entity, and no parameter, which lives in the base, does not live after the one, and lives after the other
 pub record IsGone (base : Program) (one other : History) (id : Id) : Type 0 where
   pub lived : IsTrue (is_living_entity base id)
   pub dead : IsFalse (is_living_entity (after base one) id)
@@ -68,7 +68,7 @@ pub data IsPair (base : Program) (one other : History) : Pair → Type 0 where
   gone_after_one : {pair : Pair} → IsGonePair base one other pair → IsPair base one other pair
   gone_after_other : {pair : Pair} → IsGonePair base other one pair → IsPair base one other pair
 
--- these are all of them, each once, in order
+-- the list has all pairs of the two, each once, in order
 pub record ArePairs (base : Program) (one other : History) (pairs : List Pair) : Type 0 where
   pub ascending : IsStrictlySortedBy pair_cmp pairs
   pub each : (pair : Pair) → Contains pairs pair ↔ IsPair base one other pair

@@ -19,8 +19,7 @@ first_tag log = first_of log.tags where
 abbrev pub comes_first : Log → Log → Bool
 comes_first one other = is_lt (tag_cmp (first_tag one) (first_tag other))
 
--- the log of the lesser first tag, and the other. All that is said of a merge is said of these two, so that it does not go by the order in
--- which the logs are given
+-- The log of the lesser first tag, and the other. Where the two share no tag, these are the same two in whichever order the logs are given.
 abbrev pub lesser : Log → Log → Log
 lesser one other = if comes_first one other then one else other
 
@@ -44,7 +43,8 @@ TagsDiffer one other =
 
 -- ---- the merged log
 
--- The log of two: the digest of their base, all tags in order, and the entries of the one before those of the other.
+-- The log of two: the digest of the one, which is the other's too where both are logs of one base, all tags in order, and the entries of
+-- the one before those of the other.
 pub record IsMergedLog (one other merged : Log) : Type 0 where
   pub digest : merged.base_digest ≡ one.base_digest
   pub tags : merged.tags ≡ as_set tag_cmp (one.tags ++ other.tags)
