@@ -77,12 +77,7 @@ impl<'a> Labels<'a> {
 
     /// Appends an identity and, in brackets, its address in the base, or `added` where it has none there: `:1[shop.Cart]`. ASCII but for
     /// names. `Err` is want of memory; then a part may be appended.
-    pub fn push_id(
-        &self,
-        alloc: Global,
-        out: &mut Vec<u8>,
-        id: &Id,
-    ) -> Result<(), OutOfMemory>
+    pub fn push_id(&self, alloc: Global, out: &mut Vec<u8>, id: &Id) -> Result<(), OutOfMemory>
         ensures { OnOk result (out.new.items ≡ out.old.items ++ id_text self.now id.now) }
     {
         out.extend_from_slice(id.write(alloc)?.bytes())?;

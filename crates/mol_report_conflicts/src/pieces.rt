@@ -10,7 +10,11 @@ use mol_values_types::Value;
 use std::alloc::Global;
 
 /// Appends a number in decimal.
-pub(crate) fn push_number(alloc: Global, out: &mut Vec<u8>, number: usize) -> Result<(), OutOfMemory>
+pub(crate) fn push_number(
+    alloc: Global,
+    out: &mut Vec<u8>,
+    number: usize,
+) -> Result<(), OutOfMemory>
     ensures { OnOk result (out.new.items ≡ out.old.items ++ decimal number) }
 {
     out.extend_from_slice(format!(in alloc; "{number}")?.as_bytes())?;
