@@ -81,7 +81,7 @@ impl<'a> LastWrites<'a> {
         self.by_entity.get(id).copied()
     }
 
-    /// The cells that the log writes, each once. It takes no memory.
+    /// The cells that the log writes, and no other. It takes no memory.
     pub fn cells(&self) -> &[Cell]
         ensures { (at : AnyCell) → Contains result.now at ↔ IsSome (last (history self.now) at) }
     {
