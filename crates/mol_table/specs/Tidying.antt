@@ -1,5 +1,5 @@
 -- What the values of a table are tidied by: the present parameters of its maps, and an index of constructors.
-use Rattle.std.specs.Prelude.{List, Option}
+use Rattle.std.specs.Prelude.{ℕ, zero, suc, List, [], ◌∷◌, Option}
 use Rattle.std.specs.FinMap.{from_entries, get}
 use Rattle.mol_base.specs.Order.{id_cmp}
 use Rattle.mol_base.specs.declared.ident.Id.{Id}
@@ -64,3 +64,9 @@ module _ (maps : Maps) (index : List (Id × Id)) where
 
   abbrev pub entry_by : Cell × Value → Cell × Value
   entry_by entry = (entry.0, value_by entry.1)
+
+-- entries of which the value at a place is changed
+abbrev pub changed_at : (Value → Value) → ℕ → List (Cell × Value) → List (Cell × Value)
+changed_at change place [] = []
+changed_at change zero (entry ∷ entries) = (entry.0, change entry.1) ∷ entries
+changed_at change (suc place) (entry ∷ entries) = entry ∷ changed_at change place entries

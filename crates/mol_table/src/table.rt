@@ -175,6 +175,16 @@ impl Table {
         })
     }
 
+    /// The same of a table that is used up: each value is tidied where it stands, so that no second table stands beside it.
+    pub fn into_tidied(self, alloc: Global) -> Result<Table, OutOfMemory>
+        ensures ok { IfOk result (λ tidied. tidied ≡ tidy self) }
+        ensures tidied { IfOk result (λ tidied. tidy tidied ≡ tidied) }
+    {
+        let Table { mut maps } = self;
+        maps.tidy_in_place(alloc)?;
+        Ok(Table { maps })
+    }
+
     /// Adds entities with all their cells; all else stays, and the parameters that they list become known
     /// with their methods. For want of memory the table stays as it was.
     ///

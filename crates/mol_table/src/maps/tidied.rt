@@ -1,9 +1,9 @@
 //! The maps of a table with each value tidied.
-ghost use Rattle.std.specs.Prelude.{◌≡◌, IfOk, map};
+ghost use Rattle.std.specs.Prelude.{◌≡◌, IfOk, OnOk, map};
 ghost use Rattle.std.specs.FinMap.{from_entries, entries};
 ghost use Rattle.mol_table.specs.Maps.{cells_of, program_in, counts_in, IsOrdered};
 ghost use Rattle.mol_table_rules.specs.Tidy.{tidy};
-ghost use Rattle.mol_table.specs.Tidying.{entry_by};
+ghost use Rattle.mol_table.specs.Tidying.{changed_at, entry_by, value_by};
 
 use crate::maps::Maps;
 use crate::maps::copy::{copy_known, copy_numbers};
@@ -29,6 +29,48 @@ impl Maps {
             living: copy_numbers(alloc, &self.living)?,
             first_cells: copy_places(alloc, &self.first_cells),
         })
+    }
+
+    /// Tidies each value where it stands. The time is that of `tidied`. Where there is no memory, some values are tidied and others are not.
+    pub(crate) fn tidy_in_place(&mut self, alloc: Global) -> Result<(), OutOfMemory>
+        ensures program { OnOk result (program_in self.new ≡ tidy (program_in self.old)) }
+        ensures rest { self.new ≡ record self.old { cells = self.new.cells } }
+    {
+        let index = self.bare_constructors(alloc)?;
+        self.tidy_values(alloc, &index)?;
+        Ok(())
+    }
+
+    /// Tidies each value where it stands, by an index of constructors.
+    fn tidy_values(&mut self, alloc: Global, index: &IndexMap<Id, Id>) -> Result<(), OutOfMemory>
+        ensures cells { OnOk result (self.new.cells.entries ≡ map (entry_by self.old index.now.entries) self.old.cells.entries) }
+        ensures rest { self.new ≡ record self.old { cells = self.new.cells } }
+    {
+        for place in 0..self.cells.len() {
+            self.tidy_at(alloc, index, place)?;
+        }
+        Ok(())
+    }
+
+    /// Tidies the value at a place.
+    fn tidy_at(
+        &mut self,
+        alloc: Global,
+        index: &IndexMap<Id, Id>,
+        place: usize,
+    ) -> Result<(), OutOfMemory>
+        ensures cells { OnOk result (self.new.cells.entries
+            ≡ changed_at (value_by self.old index.now.entries) place self.old.cells.entries) }
+        ensures rest { self.new ≡ record self.old { cells = self.new.cells } }
+    {
+        let entries = self.cells.as_slice();
+        let Some((at, value)) = entries.get_index(place) else {
+            return Ok(());
+        };
+        let cell = *at;
+        let tidied = tidy_value(alloc, self, index, value)?;
+        drop(self.cells.insert(cell, tidied)?);
+        Ok(())
     }
 }
 
