@@ -85,13 +85,13 @@ module _ {K X : Type 0} {R : K → K → Ordering} (total : IsTotalOrder R) (onl
 
 -- # Sameness
 
-told_id : (a b : Id) → Told (a ≡ b)
+pub told_id : (a b : Id) → Told (a ≡ b)
 told_id = told_same id_cmp id_cmp-total id_cmp-IsAntisymmetric
 
-told_name : (a b : Name) → Told (a ≡ b)
+pub told_name : (a b : Name) → Told (a ≡ b)
 told_name = told_same (slice_cmp nat_cmp) nat_list_cmp_total (slice_cmp-IsAntisymmetric nat_cmp-IsAntisymmetric)
 
-told_number : (a b : ℕ) → Told (a ≡ b)
+pub told_number : (a b : ℕ) → Told (a ≡ b)
 told_number a b = told_alike (told_name (a ∷ []) (b ∷ [])) (ap (λ (l : List ℕ). get_or l 0 0)) (ap (λ (n : ℕ). n ∷ []))
 
 told_address : (a b : Address) → Told (a ≡ b)
@@ -147,36 +147,36 @@ told_key a b =
       ),
     ))
 
-told_target : (a b : Target) → Told (a ≡ b)
+pub told_target : (a b : Target) → Told (a ≡ b)
 told_target a b =
     told_alike (told_key (target_key a) (target_key b)) (λ same. sym (target-kept a) ∙ ap (λ (k : TargetKey). target_by k.kind k) same ∙ target-kept b) (ap target_key)
 
 -- # What is known
 
-abbrev declared_method : Known → Option Id
+abbrev pub declared_method : Known → Option Id
 declared_method (knowns.Decl method) = Some method
 declared_method known = None
 
-declares-is : (known : Known) (method : Id) → declared_method known ≡ Some method → known ≡ knowns.Decl method
+pub declares-is : (known : Known) (method : Id) → declared_method known ≡ Some method → known ≡ knowns.Decl method
 declares-is (knowns.Decl own) method is = ap knowns.Decl (same_Some own method is)
 declares-is knowns.Class method is = absurd cc
 declares-is knowns.Field method is = absurd cc
 declares-is (knowns.Method kind) method is = absurd cc
 declares-is (knowns.Param own) method is = absurd cc
 
-abbrev decl_in : Option Known → Option Id
+abbrev pub decl_in : Option Known → Option Id
 decl_in (Some known) = declared_method known
 decl_in None = None
 
-decl-is : (o : Option Known) (method : Id) → decl_in o ≡ Some method → o ≡ Some (knowns.Decl method)
+pub decl-is : (o : Option Known) (method : Id) → decl_in o ≡ Some method → o ≡ Some (knowns.Decl method)
 decl-is None method is = absurd cc
 decl-is (Some known) method is = ap (λ (k : Known). Some k) (declares-is known method is)
 
-abbrev method_kind : Option Known → Option MethodKind
+abbrev pub method_kind : Option Known → Option MethodKind
 method_kind (Some (knowns.Method kind)) = Some kind
 method_kind known = None
 
-kind-is : (o : Option Known) (kind : MethodKind) → method_kind o ≡ Some kind → o ≡ Some (knowns.Method kind)
+pub kind-is : (o : Option Known) (kind : MethodKind) → method_kind o ≡ Some kind → o ≡ Some (knowns.Method kind)
 kind-is (Some (knowns.Method own)) kind is = ap (λ (k : MethodKind). Some (knowns.Method k)) (same_Some own kind is)
 kind-is (Some (knowns.Decl own)) kind is = absurd cc
 kind-is (Some knowns.Class) kind is = absurd cc
@@ -203,13 +203,13 @@ module _ (program : Program) where
   known-living : (id : Id) → lives program id ≡ true → IsKnown id
   known-living id is = known-where (λ known. lives_as program id known ≡ true) id is (λ fails. absurd cc)
 
-  known-class : (id : Id) → is_living_class program id ≡ true → IsKnown id
+  pub known-class : (id : Id) → is_living_class program id ≡ true → IsKnown id
   known-class id is = known-where (λ known. (is_class known && living_at program id) ≡ true) id is (λ fails. absurd cc)
 
-  abbrev listed_known : Listed (λ (entry : Id × Known). get program.known entry.0 ≡ Some entry.1)
+  abbrev pub listed_known : Listed (λ (entry : Id × Known). get program.known entry.0 ≡ Some entry.1)
   listed_known = listed_entries id_cmp-total id_cmp-IsAntisymmetric program.known
 
-  listed_ids : Listed IsKnown
+  pub listed_ids : Listed IsKnown
   listed_ids =
       listed_alike (listed_map listed_known (λ (entry : Id × Known). entry.0)) (λ id h. (h.0.1, subst (λ id. get program.known id ≡ Some h.0.1) h.2 h.1)) (λ id known. ((id, known.0), known.1, refl))
 
