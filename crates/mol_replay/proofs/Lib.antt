@@ -1,6 +1,10 @@
+pub mod AlikeFaults
 pub mod AllApplied
 pub mod LastWrites
 pub mod Refusals
 pub mod Replayed
 pub mod Rules
+pub mod TidiedClashes
 pub mod TidiedDigests
+pub mod TidiedFaults
+pub mod TidiedLeft

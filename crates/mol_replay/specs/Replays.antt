@@ -40,3 +40,7 @@ IsInapplicable base history OutOfMemory = Unit {0}
 abbrev pub as_replay_fault : Inapplicable → ReplayFault
 as_replay_fault (At stamp why) = faults.NotApplicable stamp why
 as_replay_fault OutOfMemory = faults.OutOfMemory
+
+-- this is the first fault of a program, as a fault of a replay
+abbrev pub IsUnclean : Program → ReplayFault → Type 0
+IsUnclean left fault = (found : Fault) × (fault ≡ faults.NotClean found) × IsFirst left (Some (kept_fault found))

@@ -5,8 +5,10 @@ mod applying;
 mod digests;
 mod fault;
 mod replaying;
+mod tidying;
 
 pub use applying::apply_log;
 pub use digests::digest;
 pub use fault::{Inapplicable, ReplayFault};
 pub use replaying::{replay, replay_on};
+pub use tidying::replay_tidied;
