@@ -1,0 +1,9 @@
+pub mod Gones
+pub mod InTurn
+pub mod Making
+pub mod Members
+pub mod Parts
+pub mod Rows
+pub mod Slots
+pub mod Twices
+pub mod Values
