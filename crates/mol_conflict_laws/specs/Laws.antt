@@ -1,8 +1,8 @@
--- Conflicts name both sides.
+-- The conflicts of two logs can be listed, and name both sides.
 use Rattle.std.specs.Prelude.{IsFalse, List, Contains}
 use Rattle.mol_faults_rules.specs.declared.conflict.Conflict.{Conflict}
 use Rattle.mol_log.specs.declared.log.Log.{Log}
-use Rattle.mol_log_rules.specs.Histories.{after}
+use Rattle.mol_log_rules.specs.Histories.{History, after}
 use Rattle.mol_log_rules.specs.Living.{HasNoDead}
 use Rattle.mol_log_rules.specs.Logs.{history}
 use Rattle.mol_merge_laws.specs.OrderLaws.{BothApply}
@@ -11,6 +11,10 @@ use Rattle.mol_merge_rules.specs.TwoLogs.{greater, lesser}
 use Rattle.mol_spell_rules.specs.Clean.{Clean}
 use Rattle.mol_table_rules.specs.Program.{Program}
 use Rattle.mol_table_rules.specs.Rules.{IsProgram}
+
+pub record ConflictsListed : Type 0 where
+  -- two histories over a base, whichever they are, have a list of all their conflicts
+  pub listed : (base : Program) (one other : History) → (list : List Conflict) × AreConflicts base one other list
 
 -- Two logs that share no tag and apply to a base without dead entities. What each of them leaves is clean.
 pub record BothLeaveClean (base : Program) (one other : Log) : Type 0 where
