@@ -1,0 +1,11 @@
+pub mod Answered
+pub mod BothNamed
+pub mod Conflicting
+pub mod LimitsPassed
+pub mod MergedParts
+pub mod Ordered
+pub mod Replayed
+pub mod Stamps
+pub mod TagSearch
+pub mod TidiedTexts
+pub mod Zipped
