@@ -18,7 +18,7 @@ use Rattle.mol_top.specs.declared.output.Work.{Work}
 use Rattle.mol_top.specs.declared.refusal.Refusal.{Refusal}
 use Rattle.mol_top.specs.declared.status.Status.{Status}
 use Rattle.mol_top.specs.declared.status.Status.TheVariants.{Done, Conflicts, Usage, ReadFailed, WriteFailed, OutOfMemory}
-use Rattle.mol_top.proofs.renames.MergeSwapped.{same_swapped}
+use Rattle.mol_top.proofs.MergesSwapped.{same_swapped}
 
 -- # A stop before the first write
 

@@ -3,6 +3,8 @@ use Rattle.std.proofs.Common.{◌≡◌, ◌⊎◌, inl, inr, ℕ, List, length,
 use Rattle.mol_base.specs.declared.file.File.{File}
 use Rattle.mol_base.specs.Files.{FilePair, file_pairs}
 use Rattle.mol_outside.specs.Contents.{Contents}
+use Rattle.mol_log_rules.proofs.Laws.{last_writes_left}
+use Rattle.mol_log_rules.specs.Living.{HasNoDead}
 use Rattle.mol_program.specs.Programs.{IsReadAs, Refuses}
 use Rattle.mol_program.specs.declared.fault.ReadFault.{ReadFault}
 use Rattle.mol_program.specs.declared.fault.ReadFault.TheVariants as reads
@@ -29,6 +31,10 @@ program_read base h read made are is = record {
   program = record { read = are.allowed; read_as = subst (λ (files : List FilePair). IsReadAs files made.table) are.are is.read_as };
   files = is.count ∙ ap length are.are;
 }
+
+-- sources make nothing dead
+pub no_dead : (files : List FilePair) (program : Program) → IsReadAs files program → HasNoDead program
+no_dead files program is = last_writes_left.living program (λ id known. is.read.all_live id known)
 
 -- # Refusals
 

@@ -1,5 +1,5 @@
--- What `fmt` and `replay` write reads back, and is in the one layout.
-use Rattle.std.proofs.Common.{◌≡◌, ◌≤◌, ℕ, Bool, true, false, cond, List, [], ◌∷◌, map, refl, sym, ◌∙◌, ap, subst, arith}
+-- What `fmt`, `replay` and `merge` write reads back, and is in the one layout.
+use Rattle.std.proofs.Common.{◌≡◌, ◌≢◌, ◌≤◌, ℕ, Bool, true, false, cond, List, [], ◌∷◌, length, map, refl, sym, ◌∙◌, ap, subst, arith}
 use Rattle.std.specs.Prelude.{None, Some, All, Option, option_map, find, nat_lt}
 use Rattle.std.specs.Option.{option_or}
 use Rattle.std.proofs.lemmas.Bool.Decides.{nat_tests}
@@ -16,8 +16,13 @@ use Rattle.jav_tree.specs.Places.{SameUnit}
 use Rattle.jav_tree.specs.WithParens.{unit_with_parens}
 use Rattle.mol_base.specs.Limits.{most}
 use Rattle.mol_base.specs.declared.limit.Which.TheVariants.{Height}
+use Rattle.mol_faults_rules.specs.declared.conflict.Conflict.{Conflict}
+use Rattle.mol_log.specs.declared.log.Log.{Log}
+use Rattle.mol_merge.proofs.Replayed.{merged_replays}
+use Rattle.mol_merge.specs.Outcomes.{AreMergeable}
 use Rattle.mol_outside.specs.Contents.{Contents}
 use Rattle.mol_replay.proofs.Rules.{rules-left}
+use Rattle.mol_replay.specs.Replays.{Replays}
 use Rattle.mol_spell_files.specs.FileLimits.{files_limit, long_text, long_texts, many_files, passing, tall_tree}
 use Rattle.mol_spell_files.specs.ProgramTexts.{printed_height, program_heights, program_texts}
 use Rattle.mol_spell_files.specs.declared.limits.LimitFault.{LimitFault}
@@ -29,10 +34,11 @@ use Rattle.mol_spell_rules.specs.SpelledUnits.{SpelledUnit, spelling}
 use Rattle.mol_table_rules.specs.Program.{Program}
 use Rattle.mol_table_rules.specs.Rules.{IsProgram as KeepsRules}
 use Rattle.mol_top.specs.Answers.{limit_status}
-use Rattle.mol_top.specs.Command.{Command, FmtWords, ReplayWords}
+use Rattle.mol_top.specs.Command.{Command, FmtWords, MergeWords, ReplayWords}
 use Rattle.mol_top.specs.Formatting.{FmtComesTo, program_refusal}
+use Rattle.mol_top.specs.Merging.{Merge, MergeComesTo, MergesTo, left_by_both}
 use Rattle.mol_top.specs.Output.{Outcome}
-use Rattle.mol_top.specs.ReadBack.{FilesReadBack, FmtReadsBack, IsReadBack, ReplayReadsBack}
+use Rattle.mol_top.specs.ReadBack.{FilesReadBack, FmtReadsBack, IsReadBack, MergeReadsBack, ReplayReadsBack}
 use Rattle.mol_top.specs.Refusals.{out_refusal}
 use Rattle.mol_top.specs.Replaying.{ReplayComesTo, left_by}
 use Rattle.mol_top.specs.declared.status.Status.{Status}
@@ -137,9 +143,52 @@ replay_back words held outcome comes =
       };
     }
 
+first_none : {A : Type 0} (first second : Option A) → option_or first second ≡ None → first ≡ None
+first_none None second e = refl
+first_none (Some a) second e = absurd cc
+
+module _ (base : Program) (rules : KeepsRules base) (first second merged : Log) (mergeable : AreMergeable base first second)
+    (merge : Merge base first second merged) where
+  abbrev both : Program
+  both = left_by_both base first second
+
+  replays : Replays base merged × (left_by base merged ≡ both)
+  replays = merged_replays.replays base first second merged mergeable merge.none merge.log
+
+  both_rules : KeepsRules both
+  both_rules = subst KeepsRules replays.1 (rules-left base merged replays.0 rules)
+
+  both_allowed : program_refusal both ≡ None
+  both_allowed = ap (option_map limit_status) (first_none (files_limit (program_texts both) (program_heights both)) _ merge.within)
+
+  both_back : All IsReadBack (spelling both)
+  both_back = sources_back both both_rules (subst Clean replays.1 replays.0.clean) both_allowed
+
+no_conflict : (list : List Conflict) → list ≢ [] → length list ≢ 0
+no_conflict [] some is = some refl
+no_conflict (conflict ∷ list) some is = cc
+
+merge_back : (words : MergeWords) (held : Contents) (outcome : Outcome) → outcome.conflicts ≡ 0 → MergeComesTo words held outcome
+    → MergeReadsBack words held outcome
+merge_back words held outcome none comes = by comes.comes.comes where
+  by : MergesTo words.out comes.base comes.comes.first comes.comes.second outcome → MergeReadsBack words held outcome
+  by (MergesTo.merged log merge is) = record {
+    base = comes.base;
+    first = comes.comes.first;
+    second = comes.comes.second;
+    merged = log;
+    clean = comes.clean;
+    has = comes.comes.has;
+    mergeable = comes.comes.mergeable;
+    merge = merge;
+    files = ap (λ outcome. outcome.files) is;
+    read_back = both_back comes.base comes.clean.rules comes.comes.first comes.comes.second log comes.comes.mergeable merge;
+  }
+  by (MergesTo.conflicts list some are is) = absurd (no_conflict list some (sym (ap (λ outcome. outcome.conflicts) is) ∙ none))
+
 pub files_read_back : (c : Command) (held : Contents) → FilesReadBack c held
 files_read_back (Command.fmt words) held = fmt_back words held
 files_read_back (Command.replay words) held = replay_back words held
-files_read_back (Command.merge words) held = tt
+files_read_back (Command.merge words) held = merge_back words held
 files_read_back (Command.check words) held = tt
 files_read_back (Command.ids words) held = tt

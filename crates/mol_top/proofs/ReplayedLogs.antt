@@ -1,12 +1,13 @@
 -- What `replay` makes over a base, and what stops it.
-use Rattle.std.proofs.Common.{◌≡◌, ◌≢◌, ◌⊎◌, inl, inr, ℕ, Bool, true, false, List, refl, sym, ◌∙◌, ap, subst, arith, map}
+use Rattle.std.proofs.Common.{◌≡◌, ◌≢◌, ◌⊎◌, inl, inr, ℕ, List, refl, sym, ◌∙◌, ap, subst, arith, map}
 use Rattle.std.specs.Prelude.{Some, option_map}
+use Rattle.mol_faults_rules.specs.declared.fault.Fault.{Fault}
 use Rattle.mol_log.specs.declared.log.Log.{Log}
 use Rattle.mol_replay.specs.Replays as replaying
 use Rattle.mol_replay.specs.Replays.{Replays}
 use Rattle.mol_replay.specs.declared.fault.ReplayFault.{ReplayFault}
 use Rattle.mol_replay.specs.declared.fault.ReplayFault.TheVariants as faults
-use Rattle.mol_report_logs.specs.ReplayFaults.{replay_fault_text}
+use Rattle.mol_report_logs.specs.ReplayFaults.{plain_fault_text, replay_fault_text}
 use Rattle.mol_spell_files.specs.FileLimits.{files_limit}
 use Rattle.mol_spell_files.specs.ProgramTexts.{printed_height, program_heights, program_texts, written_text}
 use Rattle.mol_spell_rules.specs.PrintedFiles.{printed_text}
@@ -14,21 +15,22 @@ use Rattle.mol_spell_rules.specs.SpelledUnits.{units_of}
 use Rattle.mol_table_rules.specs.Program.{Program}
 use Rattle.mol_table_rules.specs.Tidy.{tidy}
 use Rattle.mol_top.proofs.BaseStops.{StopsBy-more}
-use Rattle.mol_top.proofs.Carrying.{Carries-more}
+use Rattle.mol_top.proofs.LogRefusals.{any_program, fault_line, its_line}
 use Rattle.mol_top.proofs.Stopping.{StopsBy-later}
 use Rattle.mol_top.specs.Answers.{limit_status, store_status}
 use Rattle.mol_top.specs.Bases.{IsCleanBase}
-use Rattle.mol_top.specs.Carried.{Carries, CarriesOwn, IsInOut, IsInput, IsInside, IsRead, NoPath}
-use Rattle.mol_top.specs.Command.{Command, NamedPaths, ReplayWords, replay_paths}
+use Rattle.mol_top.specs.Carried.{Carries, NoPath}
+use Rattle.mol_top.specs.Command.{Command, ReplayWords, replay_paths}
 use Rattle.mol_top.specs.Formatting.{IsTextWork, fmt_outcome, program_refusal}
 use Rattle.mol_top.specs.Logs.{IsLogAt, LogRefuses}
-use Rattle.mol_top.specs.Outcome.{ByNames, Refuses}
+use Rattle.mol_top.specs.Outcome.{Refuses}
 use Rattle.mol_top.specs.Outside.{IfTold, OnlyReads, Store}
 use Rattle.mol_top.specs.Prepared.{IsStopped, Prepares}
 use Rattle.mol_top.specs.ProgramWork.{IsFilesWork, StopsLarge}
-use Rattle.mol_top.specs.ReadLogs.{CarriesLog, IsLogStopped, IsStoppedAt, RefusesOut}
-use Rattle.mol_top.specs.ReplayWork.{IsForLimit, IsLogOrOut, IsMadeOver, IsRefusalOfFault, IsRefusalOfLimits, IsRefusalOfReplay, IsRefusalWith}
-use Rattle.mol_top.specs.ReplayWork.{IsReplayStopped, IsReplayWork, IsStoppedOver}
+use Rattle.mol_top.specs.ReadLogs.{IsLogStopped, IsStoppedAt, RefusesOut}
+use Rattle.mol_top.specs.RefusedLogs.{IsRefusalOfFault}
+use Rattle.mol_top.specs.ReplayWork.{IsForLimit, IsLogOrOut, IsMadeOver, IsRefusalOfLimits, IsRefusalOfReplay, IsReplayStopped, IsReplayWork}
+use Rattle.mol_top.specs.ReplayWork.{IsStoppedOver}
 use Rattle.mol_top.specs.Replaying.{HasLog, RefusesOver, ReplayRefuses, left_by}
 use Rattle.mol_top.specs.Report.{line_bytes, log_line, names_addresses, refusal_line}
 use Rattle.mol_top.specs.Steps.{IsNamed, Only, StopsBy}
@@ -37,24 +39,9 @@ use Rattle.mol_top.specs.declared.fault.StoreFault.{StoreFault}
 use Rattle.mol_top.specs.declared.fault.StoreFault.TheVariants as stores
 use Rattle.mol_top.specs.declared.output.Work.{Work}
 use Rattle.mol_top.specs.declared.refusal.Refusal.{Refusal}
-use Rattle.mol_top.specs.declared.status.BaseFault.TheVariants.{Unclean}
 use Rattle.mol_top.specs.declared.status.LogCause.TheVariants.{Replay}
 use Rattle.mol_top.specs.declared.status.Status.{Status}
-use Rattle.mol_top.specs.declared.status.Status.TheVariants.{BaseRefused, LogRefused, OutOfMemory}
-
--- # Lines
-
--- a line that names no address is the same over any program
-any_program : (program : Program) (s : Status) → names_addresses s ≡ false → program_line program s ≡ refusal_line s
-any_program program (BaseRefused (Unclean fault)) plain = absurd cc
-any_program program (LogRefused k (Replay (faults.NotClean fault))) plain = absurd cc
-any_program program s plain = refl
-
-fault_line : (base : Program) (fault : ReplayFault) → log_line 1 (replay_fault_text base fault) ≡ program_line base (LogRefused 1 (Replay fault))
-fault_line base (faults.NotClean fault) = refl
-fault_line base (faults.BaseDiffers have want) = refl
-fault_line base (faults.NotApplicable stamp why) = refl
-fault_line base faults.OutOfMemory = refl
+use Rattle.mol_top.specs.declared.status.Status.TheVariants.{LogRefused, OutOfMemory}
 
 -- # A tidied program
 
@@ -71,12 +58,8 @@ module _ (program tidied : Program) (is : tidied ≡ tidy program) (stays : tidy
   pub tidied_made : (out : List ℕ) (work : Work) → IsFilesWork out tidied work → IsFilesWork out program work
   tidied_made out work made = record { allowed = sym same_refusal ∙ made.allowed; is = subst (λ texts. IsTextWork out texts work) same_texts made.is }
 
-  pub tidied_large : (fault : StoreFault) → StopsLarge tidied fault → StopsLarge program fault
-  tidied_large stores.OutOfMemory stops = tt
-  tidied_large (stores.Limit fault) stops = sym same_refusal ∙ stops
-  tidied_large (stores.ReadFailed p) stops = absurd stops
-  tidied_large (stores.Missing p) stops = absurd stops
-  tidied_large (stores.OutInUse p) stops = absurd stops
+  pub tidied_limit : (refusal : Refusal) → IsForLimit tidied refusal → IsForLimit program refusal
+  tidied_limit refusal limit = record { fault = limit.fault; refused = sym same_refusal ∙ limit.refused; is = limit.is; line = limit.line }
 
 -- files that pass a limit are refused for it
 pub large_refused : (program : Program) (fault : StoreFault) (refusal : Refusal) → StopsLarge program fault
@@ -92,19 +75,30 @@ large_refused program fault refusal stops (inr is) line = inl (record { status =
 
 -- # A replay
 
--- the refusal for a fault of a replay
-pub fault_with : (base : Program) (fault : ReplayFault) (line : List ℕ) (refusal : Refusal) → line ≡ log_line 1 (replay_fault_text base fault)
-    → IsRefusalWith fault line refusal → IsRefusalOfFault base fault refusal
-fault_with base fault line refusal is said = subst (λ line. IsRefusalWith fault line refusal) is said
+-- what names no address of the base is the same over any base
+pub plain_text : (base : Program) (fault : ReplayFault) → ((found : Fault) → fault ≢ faults.NotClean found)
+    → plain_fault_text fault ≡ replay_fault_text base fault
+plain_text base (faults.NotClean found) other = absurd (other found refl)
+plain_text base (faults.BaseDiffers have want) other = refl
+plain_text base (faults.NotApplicable stamp why) other = refl
+plain_text base faults.OutOfMemory other = refl
 
--- it is that of the log where the fault is
+-- so is its refusal
+pub plain_refused : (base : Program) (fault : ReplayFault) (refusal : Refusal) → ((found : Fault) → fault ≢ faults.NotClean found)
+    → fault ≢ faults.OutOfMemory → (refusal.status ≡ LogRefused 1 (Replay fault)) ⊎ (refusal.status ≡ OutOfMemory)
+    → line_bytes refusal.line ≡ refusal_line refusal.status → IsRefusalOfFault base 1 fault refusal
+plain_refused base fault refusal other enough (inl is) line =
+    inr (record { enough = enough; is = is; says = line ∙ ap refusal_line is ∙ ap (log_line 1) (plain_text base fault other) })
+plain_refused base fault refusal other enough (inr is) line = inl (record { status = is; line = line ∙ ap refusal_line is })
+
+-- the refusal for a fault of a replay is that of the log where the fault is
 pub fault_refused : (base : Program) (log : Log) (fault : ReplayFault) (refusal : Refusal)
-    → (fault ≢ faults.OutOfMemory → replaying.ReplayRefuses base log fault) → IsRefusalOfFault base fault refusal
+    → (fault ≢ faults.OutOfMemory → replaying.ReplayRefuses base log fault) → IsRefusalOfFault base 1 fault refusal
     → IsRefusalOfReplay base log refusal
 fault_refused base log fault refusal wrong (inl memory) = inl memory
 fault_refused base log fault refusal wrong (inr is) = inr (record {
   refused = record { fault = fault; refuses = wrong is.enough; is = is.is };
-  line = is.says ∙ fault_line base fault ∙ ap (program_line base) (sym is.is);
+  line = is.says ∙ fault_line base 1 fault ∙ ap (program_line base) (sym is.is);
 })
 
 pub replay_number : (base : Program) (log : Log) (refusal : Refusal) → IsRefusalOfReplay base log refusal
@@ -112,14 +106,14 @@ pub replay_number : (base : Program) (log : Log) (refusal : Refusal) → IsRefus
 replay_number base log refusal (inl memory) = subst (Carries NoPath NoPath NoPath) (sym memory.status) tt
 replay_number base log refusal (inr replay) = subst (Carries NoPath NoPath NoPath) (sym replay.refused.is) tt
 
--- what a log leaves
-module _ (base : Program) (log : Log) (left : Program) (is : left ≡ left_by base log) (all : Replays base log) where
+-- what a log leaves, tidied
+module _ (base : Program) (log : Log) (left : Program) (is : left ≡ tidy (left_by base log)) (stays : tidy left ≡ left) (all : Replays base log) where
   pub left_made : (out : List ℕ) (work : Work) → IsFilesWork out left work → IsReplayWork out base log work
-  left_made out work made = record { replays = all; made = subst (λ (p : Program). IsFilesWork out p work) is made }
+  left_made out work made = record { replays = all; made = tidied_made (left_by base log) left is stays out work made }
 
   pub left_refused : (refusal : Refusal) → IsRefusalOfLimits left refusal → IsReplayStopped base log refusal
   left_refused refusal (inl memory) = inl (inl memory)
-  left_refused refusal (inr limit) = inr (record { replays = all; limit = subst (λ (p : Program). IsForLimit p refusal) is limit })
+  left_refused refusal (inr limit) = inr (record { replays = all; limit = tidied_limit (left_by base log) left is stays refusal limit })
 
 -- # Over a base
 
@@ -167,27 +161,6 @@ module _ (w : ReplayWords) (base : Program) (old : Store) where
       line = left.limit.line ∙ sym (any_program base refusal.status (ap names_addresses left.limit.is));
     }
 
--- # What is carried
-
-module _ (w : ReplayWords) (status : Status) where
-  abbrev paths : NamedPaths
-  paths = replay_paths w
-
-  pub log_carries : CarriesLog w.log status → CarriesOwn paths status
-  log_carries carried =
-      Carries-more (IsRead paths) (Only w.log) (IsInput paths) (Only w.log) (IsInOut paths) NoPath status
-      (λ path is. inl (inr (0, omega arith, sym is))) (λ path is. inr (0, omega arith, sym is)) (λ path none. absurd none) carried
-
-  pub out_carries : Carries (Only w.out) NoPath (IsInside w.out) status → CarriesOwn paths status
-  out_carries carried =
-      Carries-more (IsRead paths) (Only w.out) (IsInput paths) NoPath (IsInOut paths) (IsInside w.out) status
-      (λ path only. inr (ap Some (sym only))) (λ path none. absurd none) (λ path below. below) carried
-
-  pub number_carries : Carries NoPath NoPath NoPath status → CarriesOwn paths status
-  number_carries carried =
-      Carries-more (IsRead paths) NoPath (IsInput paths) NoPath (IsInOut paths) NoPath status
-      (λ path none. absurd none) (λ path none. absurd none) (λ path none. absurd none) carried
-
 -- # The command
 
 module _ (w : ReplayWords) (old mid : Store) (base : Program) (clean : IfTold old.held (λ h. IsCleanBase w.base h base)) (before : OnlyReads old mid) where
@@ -202,15 +175,9 @@ module _ (w : ReplayWords) (old mid : Store) (base : Program) (clean : IfTold ol
   named path (inl is) = inr (inl (0, omega arith, sym is))
   named path (inr is) = inr (inr (ap Some (sym is)))
 
-  by_names : (refusal : Refusal) (b : Bool) → names_addresses refusal.status ≡ b → line_bytes refusal.line ≡ program_line base refusal.status
-      → ByNames b (Some (Command.replay w)) old refusal.status (λ line. line_bytes refusal.line ≡ line)
-  by_names refusal true names is =
-      λ h e. (line_bytes refusal.line, record { program = base; base_of = (clean h e).is; is = is }, refl)
-  by_names refusal false names is = is ∙ any_program base refusal.status names
-
   pub replay_stopped : (new : Store) (refusal : Refusal) → IsStoppedOver w base mid new refusal → IsStopped (Command.replay w) old new refusal
   replay_stopped new refusal stopped = record {
     cause = StopsBy-later (IsNamed (replay_paths w) old.held) (IsLogOrOut w) old mid new (Refuses (Command.replay w)) (RefusesOver w base)
         refusal.status named before (λ h e s refuses. ReplayRefuses.over base (clean h e) refuses) stopped.cause;
-    line = by_names refusal (names_addresses refusal.status) refl stopped.line;
+    line = its_line (Command.replay w) w.base old base (λ h e. (clean h e).is) (λ h s line is. is) refusal stopped.line;
   }

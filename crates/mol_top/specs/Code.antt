@@ -1,7 +1,7 @@
 -- The exit status of each answer.
 use Rattle.std.specs.Prelude.{ℕ}
 use Rattle.mol_top.specs.declared.status.Status.{Status}
-use Rattle.mol_top.specs.declared.status.Status.TheVariants.{Done, Conflicts, Usage, BaseRefused, LogRefused, ReadFailed, Missing, WriteFailed, OutOfMemory, OutInUse, Limit, NotBuilt}
+use Rattle.mol_top.specs.declared.status.Status.TheVariants.{Done, Conflicts, Usage, BaseRefused, LogRefused, ReadFailed, Missing, WriteFailed, OutOfMemory, OutInUse, Limit}
 
 abbrev pub code_of : Status → ℕ
 code_of Done = 0
@@ -15,4 +15,3 @@ code_of (WriteFailed path) = 7
 code_of OutOfMemory = 8
 code_of (OutInUse path) = 9
 code_of (Limit which count) = 10
-code_of (NotBuilt path) = 14

@@ -7,8 +7,11 @@ pub mod Code
 pub mod Command
 pub mod Files
 pub mod Formatting
+pub mod KeptBases
 pub mod Listing
 pub mod Logs
+pub mod MergeWork
+pub mod Merging
 pub mod Outcome
 pub mod Output
 pub mod Outside
@@ -18,10 +21,10 @@ pub mod ReadBack
 pub mod ReadLogs
 pub mod Refusals
 pub mod Refused
+pub mod RefusedLogs
 pub mod ReplayWork
 pub mod Replaying
 pub mod Report
 pub mod Steps
 pub mod UncleanLines
 pub mod Words
-pub mod renames

@@ -2,9 +2,10 @@
 use Rattle.std.specs.Prelude.{◌≡◌, ◌≢◌, ℕ, ◌<◌, ◌⊎◌, ⊤, Bool, true, false, List, [], Option, None, Some, IsSomeAnd}
 use Rattle.mol_outside.specs.Contents.{Contents, appended, HasRisen}
 use Rattle.mol_top.specs.Checking.{CheckRefuses, CheckComesTo}
-use Rattle.mol_top.specs.Command.{Command, paths_of}
+use Rattle.mol_top.specs.Command.{Command, paths_of, swapped}
 use Rattle.mol_top.specs.Formatting.{FmtRefuses, FmtComesTo}
 use Rattle.mol_top.specs.Listing.{IdsRefuses, IdsComesTo}
+use Rattle.mol_top.specs.Merging.{MergeRefuses, MergeComesTo}
 use Rattle.mol_top.specs.Outside.{IfTold, State, Store}
 use Rattle.mol_top.specs.Output.{Outcome, written_all}
 use Rattle.mol_top.specs.Replaying.{ReplayRefuses, ReplayComesTo}
@@ -13,16 +14,12 @@ use Rattle.mol_top.specs.Steps.{IsNamed, IsRefusal, IsFinal, HasFailed, HasPart,
 use Rattle.mol_top.specs.UncleanLines.{IsProgramLine}
 use Rattle.mol_top.specs.declared.status.Status.{Status}
 use Rattle.mol_top.specs.declared.status.Status.TheVariants.{Done, Conflicts, Usage, ReadFailed, WriteFailed, OutOfMemory}
-use Rattle.mol_top.specs.renames.ConflictReport.{merge_line}
-use Rattle.mol_top.specs.renames.Inputs.{base_of}
-use Rattle.mol_top.specs.renames.MergeOutcome.{MergeComesTo, IsSameSwapped}
-use Rattle.mol_top.specs.renames.MergeRefusals.{refusal}
 
 -- # What a command comes to
 
 -- what refuses a command over given contents
 abbrev pub Refuses : Command → Contents → Status → Type 0
-Refuses (Command.merge words) held status = refusal words held ≡ Some status
+Refuses (Command.merge words) held status = MergeRefuses words held status
 Refuses (Command.check words) held status = CheckRefuses words held status
 Refuses (Command.fmt words) held status = FmtRefuses words held status
 Refuses (Command.ids words) held status = IdsRefuses words held status
@@ -38,7 +35,7 @@ ComesTo (Command.replay words) held outcome = ReplayComesTo words held outcome
 
 -- the line of a refusal that names addresses of the base
 abbrev pub IsAddressesLine : Command → Contents → Status → List ℕ → Type 0
-IsAddressesLine (Command.merge words) held status line = line ≡ merge_line (base_of words held) status
+IsAddressesLine (Command.merge words) held status line = IsProgramLine words.base held status line
 IsAddressesLine (Command.check words) held status line = IsProgramLine words.base held status line
 IsAddressesLine (Command.fmt words) held status line = IsProgramLine words.base held status line
 IsAddressesLine (Command.ids words) held status line = IsProgramLine words.base held status line
@@ -113,7 +110,8 @@ IsPrefix c old new status = ⊤
 
 -- # Either order
 
--- the two logs of a merge in the other order come to the same
+-- what a merge comes to, it comes to with its two logs in the other order
 abbrev pub IsSameInEitherOrder : Command → Contents → Type 0
-IsSameInEitherOrder (Command.merge words) held = refusal words held ≡ None → IsSameSwapped words held
+IsSameInEitherOrder (Command.merge words) held =
+    (outcome : Outcome) → MergeComesTo words held outcome → MergeComesTo (swapped words) held outcome
 IsSameInEitherOrder command held = ⊤

@@ -1,11 +1,8 @@
 -- What `replay` makes over a base that was read, and what stops it.
-use Rattle.std.specs.Prelude.{◌≡◌, ◌≢◌, ◌⊎◌, ℕ, List, Some}
+use Rattle.std.specs.Prelude.{◌≡◌, ◌⊎◌, ℕ, List, Some}
 use Rattle.mol_log.specs.declared.log.Log.{Log}
 use Rattle.mol_outside.specs.Contents.{Contents}
 use Rattle.mol_replay.specs.Replays.{Replays}
-use Rattle.mol_replay.specs.declared.fault.ReplayFault.{ReplayFault}
-use Rattle.mol_replay.specs.declared.fault.ReplayFault.TheVariants as faults
-use Rattle.mol_report_logs.specs.ReplayFaults.{replay_fault_text}
 use Rattle.mol_spell_files.specs.declared.limits.LimitFault.{LimitFault}
 use Rattle.mol_table_rules.specs.Program.{Program}
 use Rattle.mol_top.specs.Answers.{limit_status}
@@ -16,13 +13,11 @@ use Rattle.mol_top.specs.Outside.{Store}
 use Rattle.mol_top.specs.ProgramWork.{IsFilesWork}
 use Rattle.mol_top.specs.Refused.{IsForMemory}
 use Rattle.mol_top.specs.Replaying.{ComesToOver, RefuseReplay, RefusesOver, left_by}
-use Rattle.mol_top.specs.Report.{line_bytes, log_line, refusal_line}
+use Rattle.mol_top.specs.Report.{line_bytes, refusal_line}
 use Rattle.mol_top.specs.Steps.{StopsBy}
 use Rattle.mol_top.specs.UncleanLines.{program_line}
 use Rattle.mol_top.specs.declared.output.Work.{Work}
 use Rattle.mol_top.specs.declared.refusal.Refusal.{Refusal}
-use Rattle.mol_top.specs.declared.status.LogCause.TheVariants.{Replay}
-use Rattle.mol_top.specs.declared.status.Status.TheVariants.{LogRefused}
 
 -- # Files
 
@@ -37,19 +32,6 @@ abbrev pub IsRefusalOfLimits : Program → Refusal → Type 0
 IsRefusalOfLimits program refusal = IsForMemory refusal ⊎ IsForLimit program refusal
 
 -- # A replay
-
--- the refusal of the first log for a fault of its replay, with a line
-pub record IsForFault (fault : ReplayFault) (line : List ℕ) (refusal : Refusal) : Type 0 where
-  pub enough : fault ≢ faults.OutOfMemory
-  pub is : refusal.status ≡ LogRefused 1 (Replay fault)
-  pub says : line_bytes refusal.line ≡ line
-
-abbrev pub IsRefusalWith : ReplayFault → List ℕ → Refusal → Type 0
-IsRefusalWith fault line refusal = IsForMemory refusal ⊎ IsForFault fault line refusal
-
--- that line is the one of its fault
-abbrev pub IsRefusalOfFault : Program → ReplayFault → Refusal → Type 0
-IsRefusalOfFault base fault refusal = IsRefusalWith fault (log_line 1 (replay_fault_text base fault)) refusal
 
 -- a log does not replay on a base
 pub record IsForReplay (base : Program) (log : Log) (refusal : Refusal) : Type 0 where

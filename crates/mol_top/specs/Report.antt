@@ -14,10 +14,9 @@ use Rattle.mol_top.specs.declared.refusal.Line.{Line}
 use Rattle.mol_top.specs.declared.refusal.Line.TheVariants.{Fixed, Made}
 use Rattle.mol_top.specs.declared.status.BaseFault.TheVariants.{Source, Unclean}
 use Rattle.mol_top.specs.declared.status.LogCause.{LogCause}
-use Rattle.mol_top.specs.declared.status.LogCause.TheVariants.{Form, Replay, Renames}
-use Rattle.mol_renames.specs.declared.log_cause.LogCause.TheVariants as renames
+use Rattle.mol_top.specs.declared.status.LogCause.TheVariants.{Form, Replay, SharedTag}
 use Rattle.mol_top.specs.declared.status.Status.{Status}
-use Rattle.mol_top.specs.declared.status.Status.TheVariants.{Done, Conflicts, Usage, BaseRefused, LogRefused, ReadFailed, Missing, WriteFailed, OutOfMemory, OutInUse, Limit, NotBuilt}
+use Rattle.mol_top.specs.declared.status.Status.TheVariants.{Done, Conflicts, Usage, BaseRefused, LogRefused, ReadFailed, Missing, WriteFailed, OutOfMemory, OutInUse, Limit}
 
 -- the number of files that are a program
 abbrev pub check_report : ℕ → List ℕ
@@ -26,6 +25,10 @@ check_report files = codes "clean " ++ decimal files ++ 10 ∷ []
 -- the number of files that were written in the one layout
 abbrev pub fmt_report : ℕ → List ℕ
 fmt_report files = codes "files " ++ decimal files ++ 10 ∷ []
+
+-- the number of files of a merge, and of the entries of its log
+abbrev pub merge_report : ℕ → ℕ → List ℕ
+merge_report files operations = codes "merged\nfiles " ++ decimal files ++ codes "\noperations " ++ decimal operations ++ 10 ∷ []
 
 -- # Refusals
 
@@ -56,13 +59,11 @@ log_line which cause = codes "log " ++ decimal which ++ 32 ∷ cause ++ 10 ∷ [
 abbrev pub cause_line : ℕ → LogCause → List ℕ
 cause_line which (Form fault) = log_line which (log_fault_text fault)
 cause_line which (Replay fault) = log_line which (plain_fault_text fault)
-cause_line which (Renames (renames.SharedTag tag)) = log_line which (codes "shared-tag " ++ tag)
-cause_line which (Renames (renames.Replay fault)) = []
+cause_line which (SharedTag tag) = log_line which (codes "shared-tag " ++ tag)
 
 -- the line of a refusal names addresses of the base: then its command makes it
 abbrev pub names_addresses : Status → Bool
 names_addresses (LogRefused which (Replay (NotClean fault))) = true
-names_addresses (LogRefused which (Renames (renames.Replay fault))) = true
 names_addresses (BaseRefused (Unclean fault)) = true
 names_addresses status = false
 
@@ -85,7 +86,6 @@ refusal_line (WriteFailed path) = codes "write-failed " ++ path ++ 10 ∷ []
 refusal_line OutOfMemory = codes "out-of-memory\n"
 refusal_line (OutInUse path) = codes "out-in-use " ++ path ++ 10 ∷ []
 refusal_line (Limit which count) = codes "limit " ++ limit_text which ++ 32 ∷ decimal count ++ 10 ∷ []
-refusal_line (NotBuilt path) = codes "not-built " ++ path ++ 10 ∷ []
 
 -- the bytes of a line that is printed
 abbrev pub line_bytes : Line → List ℕ

@@ -2,6 +2,7 @@
 ghost use Rattle.std.specs.Prelude.{◌≡◌, IfErr, IfOk, OnOk, Some};
 ghost use Rattle.mol_faults_rules.specs.Kept.{kept_fault};
 ghost use Rattle.mol_faults.specs.First.{IsFirst};
+ghost use Rattle.mol_log_rules.specs.Living.{HasNoDead};
 ghost use Rattle.mol_base.specs.Files.{ArePathsApart, AreSmall, file_pairs};
 ghost use Rattle.mol_report.specs.FaultText.{fault_text};
 ghost use Rattle.mol_spell_files.specs.Bundle.{digest_of};
@@ -47,6 +48,7 @@ pub fn read_base_program<F: Files>(
     ensures only_reads { OnlyReads (store F.Files files.old) (store F.Files files.new) }
     ensures base { IfOk result (λ read. IfTold (F.holds files.old) (λ held. IsReadOf base.now held read)) }
     ensures tidied { IfOk result (λ read. tidy read.table ≡ read.table) }
+    ensures alive { IfOk result (λ read. HasNoDead read.table) }
     ensures stop { IfErr result (IsBaseStopped base.now (store F.Files files.old) (store F.Files files.new)) }
     ensures carries { IfErr result (λ refusal. CarriesBase base.now refusal.status) }
 {
@@ -57,10 +59,11 @@ pub fn read_base_program<F: Files>(
 }
 
 /// The program of these files.
-fn base_program(alloc: Global, read: &[File]) -> Result<BaseProgram, Refusal>
+pub fn base_program(alloc: Global, read: &[File]) -> Result<BaseProgram, Refusal>
     requires small { AreSmall read.now }
     requires apart { ArePathsApart (file_pairs read.now) }
     ensures program { IfOk result (IsProgramOf (file_pairs read.now)) }
+    ensures alive { IfOk result (λ read. HasNoDead read.table) }
     ensures stop { IfErr result (IsRefusalOfFiles (file_pairs read.now)) }
 {
     match read_program(alloc, read) {

@@ -1,18 +1,28 @@
-//! Logs of a command: each is read whole, and what it spells looked at, before the next file is read.
-ghost use Rattle.std.specs.Prelude.{◌≡◌, IfErr, IfOk};
+//! Logs of a command: each is read whole, and what it spells looked at, before the next file is read. A log may then not replay.
+ghost use Rattle.std.specs.Prelude.{◌≡◌, IfErr, IfOk, None, OnOk};
 ghost use Rattle.mol_log.specs.Form.{IsLogText};
+ghost use Rattle.mol_report_logs.specs.ReplayFaults.{replay_fault_text};
 ghost use Rattle.mol_top.specs.Answers.{log_status as status_for};
+ghost use Rattle.mol_top.specs.Carried.{Carries, IsInside, NoPath};
 ghost use Rattle.mol_top.specs.Logs.{IsLogAt};
 ghost use Rattle.mol_top.specs.Outside.{IfTold, OnlyReads, store};
-ghost use Rattle.mol_top.specs.ReadLogs.{CarriesLog, IsLogStopped, IsRefusalOfLog};
+ghost use Rattle.mol_top.specs.ReadLogs.{CarriesLog, IsLogStopped, IsRefusalOfLog, IsStoppedAt, RefusesOut};
+ghost use Rattle.mol_top.specs.Refusals.{out_refusal};
+ghost use Rattle.mol_top.specs.RefusedLogs.{IsRefusalOfFault, IsRefusalWith};
+ghost use Rattle.mol_top.specs.Report.{log_line as log_line_of};
+ghost use Rattle.mol_top.specs.Steps.{Only};
 
-use crate::refusal::Refusal;
+use crate::refusal::{Line, Refusal};
+use crate::report::log_line;
 use crate::status::{LogCause, Status};
-use crate::store::read_input;
-use mol_base::Text;
+use crate::store::{check_out, read_input};
+use mol_base::{OutOfMemory, Text};
 use mol_log::{Log, read_log};
 use mol_log_rows::LogFault;
 use mol_outside::Files;
+use mol_replay::ReplayFault;
+use mol_report_logs::replay_fault_line;
+use mol_table::Table;
 use std::alloc::Global;
 
 /// The log of this number, which is to be at the path.
@@ -56,4 +66,53 @@ fn log_status(which: u8, fault: LogFault) -> Status
         LogFault::TooLong(limit, number) => Status::Limit(limit, number),
         fault => Status::LogRefused(which, LogCause::Form(fault)),
     }
+}
+
+/// Refuses a folder in which files are to be written, where it is in use.
+pub fn refuse_used<F: Files>(alloc: Global, out: &Text, files: &mut F) -> Result<(), Refusal>
+    ensures only_reads { OnlyReads (store F.Files files.old) (store F.Files files.new) }
+    ensures free { OnOk result (IfTold (F.holds files.old) (λ held. out_refusal out.now held ≡ None)) }
+    ensures stop { IfErr result (IsStoppedAt out.now (store F.Files files.old) (store F.Files files.new) (RefusesOut out.now)) }
+    ensures carries { IfErr result (λ refusal. Carries (Only out.now) NoPath (IsInside out.now) refusal.status) }
+{
+    match check_out(alloc, out, files) {
+        Ok(()) => Ok(()),
+        Err(fault) => Err(Refusal::of(alloc, Status::from(fault))),
+    }
+}
+
+/// The refusal of the log of this number for a fault of its replay on a base. Its line may name addresses of the base.
+pub fn replay_refusal(alloc: Global, base: &Table, which: u8, fault: ReplayFault) -> Refusal
+    ensures { IsRefusalOfFault base.now which fault result }
+{
+    match replay_line(alloc, base, which, &fault) {
+        Ok(line) => refusal_with(which, fault, line),
+        Err(OutOfMemory) => Refusal::out_of_memory(),
+    }
+}
+
+/// The refusal of the log of this number for a fault, with its line.
+fn refusal_with(which: u8, fault: ReplayFault, line: Vec<u8>) -> Refusal
+    ensures { IsRefusalWith which fault line.items result }
+{
+    match fault {
+        ReplayFault::OutOfMemory => Refusal::out_of_memory(),
+        fault => Refusal {
+            status: Status::LogRefused(which, LogCause::Replay(fault)),
+            line: Line::Made(line),
+        },
+    }
+}
+
+/// The line of the log of this number, which does not replay on a base.
+fn replay_line(
+    alloc: Global,
+    base: &Table,
+    which: u8,
+    fault: &ReplayFault,
+) -> Result<Vec<u8>, OutOfMemory>
+    ensures { IfOk result (λ line. line.items ≡ log_line_of which (replay_fault_text base.now fault.now)) }
+{
+    let cause = replay_fault_line(alloc, base, fault)?;
+    log_line(alloc, which, cause.items())
 }

@@ -5,14 +5,13 @@ ghost use Rattle.mol_top.specs.Report.{base_line as base_line_of, check_report a
 ghost use Rattle.mol_report_logs.specs.Limits.{limit_text};
 ghost use Rattle.mol_report_logs.specs.LogFaults.{log_fault_text};
 ghost use Rattle.mol_report_logs.specs.ReplayFaults.{plain_fault_text};
-ghost use Rattle.mol_top.specs.Report.{cause_line as cause_line_of, fault_text, log_line as log_line_of, refusal_line as refusal_line_of};
-ghost use Rattle.mol_top.specs.Report.{source_text};
+ghost use Rattle.mol_top.specs.Report.{cause_line as cause_line_of, fault_text, log_line as log_line_of, merge_report as merge_report_of};
+ghost use Rattle.mol_top.specs.Report.{refusal_line as refusal_line_of, source_text};
 
 use crate::status::{BaseFault, LogCause, Status};
 use mol_base::{OutOfMemory, Place, Tag, Text, Which};
 use mol_log_rows::LogFault;
 use mol_program::SourceFault;
-use mol_renames::LogCause as RenamesCause;
 use mol_replay::ReplayFault;
 use mol_report_logs::{limit_word, log_fault_line, plain_fault_line};
 use mol_spell_files::push_number;
@@ -42,6 +41,18 @@ pub fn fmt_report(alloc: Global, files: usize) -> Result<Vec<u8>, OutOfMemory>
     Ok(report)
 }
 
+/// The report of a merge that wrote so many files and a log of so many entries.
+pub fn merge_report(alloc: Global, files: usize, operations: usize) -> Result<Vec<u8>, OutOfMemory>
+    ensures { IfOk result (λ report. report.items ≡ merge_report_of files operations) }
+{
+    let mut report = Vec::from_slice(alloc, b"merged\nfiles ")?;
+    push_number(alloc, &mut report, files as u64)?;
+    report.extend_from_slice(b"\noperations ")?;
+    push_number(alloc, &mut report, operations as u64)?;
+    report.push(b'\n')?;
+    Ok(report)
+}
+
 /// The line of a refusal that names no address of a base; no byte where nothing is refused. Of a refusal that names one the line is made
 /// where the base is at hand.
 pub fn refusal_line(alloc: Global, status: &Status) -> Result<Vec<u8>, OutOfMemory>
@@ -59,7 +70,6 @@ pub fn refusal_line(alloc: Global, status: &Status) -> Result<Vec<u8>, OutOfMemo
         Status::OutOfMemory => Ok(Vec::from_slice(alloc, b"out-of-memory\n")?),
         Status::OutInUse(path) => path_line(alloc, b"out-in-use ", path),
         Status::Limit(which, count) => limit_line(alloc, which, *count),
-        Status::NotBuilt(path) => path_line(alloc, b"not-built ", path),
     }
 }
 
@@ -120,8 +130,7 @@ fn cause_line(alloc: Global, which: u8, cause: &LogCause) -> Result<Vec<u8>, Out
     match cause {
         LogCause::Form(fault) => form_line(alloc, which, fault),
         LogCause::Replay(fault) => plain_line(alloc, which, fault),
-        LogCause::Renames(RenamesCause::SharedTag(tag)) => shared_tag_line(alloc, which, tag),
-        LogCause::Renames(RenamesCause::Replay(_)) => Ok(Vec::new(alloc)),
+        LogCause::SharedTag(tag) => shared_tag_line(alloc, which, tag),
     }
 }
 

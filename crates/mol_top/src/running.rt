@@ -16,9 +16,9 @@ use crate::checking::prepare_check;
 use crate::command::{Command, parse};
 use crate::formatting::prepare_fmt;
 use crate::listing::prepare_ids;
+use crate::merging::prepare_merge;
 use crate::output::{Work, carry_out, refuse};
 use crate::refusal::Refusal;
-use crate::renames::prepare_merge;
 use crate::replaying::prepare_replay;
 use mol_base::{List, Text};
 use mol_outside::{Files, Sink};
@@ -42,16 +42,15 @@ use std::alloc::Global;
 /// | `Usage` | the words are no row of the usage text; an empty word is no path |
 /// | `BaseRefused(Source(..))` | the files below BASE are no program: the first file that is no source, else the first fault of names |
 /// | `BaseRefused(Unclean(..))` | they are a program that is not clean: its first fault |
-/// | `LogRefused(1, Form(..))` | LOG is not of the form of a log: the first thing that is wrong with it |
-/// | `LogRefused(1, Replay(..))` | LOG was recorded over another base, an entry of it does not apply, or what it leaves is not clean |
-/// | `LogRefused(_, Renames(..))` | the two logs of a merge have one first tag, or a log does not replay: the first log, else the second |
+/// | `LogRefused(k, Form(..))` | the log of this number is not of the form of a log: the first thing that is wrong with it |
+/// | `LogRefused(2, SharedTag(..))` | both logs of a merge have this tag: the least one |
+/// | `LogRefused(k, Replay(..))` | the log was recorded over another base, an entry of it does not apply, or what it leaves is not clean |
 /// | `ReadFailed` | a listing or a read of this path of the command failed |
 /// | `Missing` | no file below BASE ends in `.java`, or an input file is not there |
 /// | `WriteFailed` | the write of this file below OUT failed, or for the empty path the put of what is printed |
 /// | `OutOfMemory` | memory ran out, of which nothing is said |
 /// | `OutInUse` | a file lies below OUT: the least by its path |
-/// | `Limit` | a number passes its limit: of files, of bytes of a file or of all, of the height of a tree, or of LOG its bytes or entries |
-/// | `NotBuilt` | a file of the base of a merge, or a log, is not of the form that is built so far |
+/// | `Limit` | a number passes its limit: of files, of bytes of a file or of all, of the height of a tree, or of a log its bytes or entries |
 ///
 /// Of several refusals the first in the order of the command comes: the words, the base, the logs, OUT, what the logs leave, what is written.
 pub fn run<F: Files, S: Sink>(
@@ -79,10 +78,10 @@ pub fn run<F: Files, S: Sink>(
     // A write that fails leaves a prefix.
     ensures prefix { IsPrefix (command words.now) (state F.Files S.Sink files.old out.old) (state F.Files S.Sink files.new out.new) result }
 
-    // What `fmt` and `replay` write reads back as the trees of the program, and is in the one layout itself.
+    // What `fmt`, `replay` and `merge` write reads back as the trees of the program, and is in the one layout itself.
     ensures read_back { ForSome (command words.now) (λ c. (held : Contents) → FilesReadBack c held) }
 
-    // The other order of the logs of a merge comes to the same.
+    // What a merge comes to, it comes to with its logs in the other order.
     ensures either_order { ForSome (command words.now) (λ c. (held : Contents) → IsSameInEitherOrder c held) }
 {
     match parse(words.items()) {

@@ -1,9 +1,8 @@
 //! The answers of a run.
-use mol_base::{OutOfMemory, Place, Text, Which};
+use mol_base::{OutOfMemory, Place, Tag, Text, Which};
 use mol_faults_rules::Fault;
 use mol_log_rows::LogFault;
 use mol_program::SourceFault;
-use mol_renames::LogCause as RenamesCause;
 use mol_replay::ReplayFault;
 
 /// Why a base is refused.
@@ -22,8 +21,8 @@ pub enum LogCause {
     Form(LogFault),
     /// The log does not replay on the base. It is never `OutOfMemory`.
     Replay(ReplayFault),
-    /// The log of a merge of renames has the tag of the other one, or does not replay.
-    Renames(RenamesCause),
+    /// It is the second of two logs, and this tag, the least one, is in both.
+    SharedTag(Tag),
 }
 
 /// What a run answers. `code` is the exit status of the program.
@@ -50,8 +49,6 @@ pub enum Status {
     OutInUse(Text),
     /// A number passes its limit; this is the number.
     Limit(Which, u64),
-    /// An input file is not of the form that is built so far.
-    NotBuilt(Text),
 }
 
 impl Status {
@@ -74,7 +71,6 @@ impl Status {
             Status::OutOfMemory => 8,
             Status::OutInUse(_) => 9,
             Status::Limit(..) => 10,
-            Status::NotBuilt(_) => 14,
         }
     }
 }

@@ -2,6 +2,7 @@
 use Rattle.std.proofs.Common.{◌≡◌, ◌⊎◌, inl, inr, ℕ, List, None, Some, refl, sym, ◌∙◌, ap, subst}
 use Rattle.std.specs.Global.{Global}
 use Rattle.mol_base.specs.Files.{FilePair}
+use Rattle.mol_conflict_laws.proofs.KeptFaults.{fault-kept, fault_of, kept-same}
 use Rattle.mol_faults_laws.proofs.EveryFault.{first_fault_told}
 use Rattle.mol_faults_rules.specs.Kept.{kept_fault}
 use Rattle.mol_faults_rules.specs.declared.fault.Fault.{Fault as Kept}
@@ -13,7 +14,6 @@ use Rattle.mol_program.specs.Programs.{IsReadAs}
 use Rattle.mol_spell_rules.specs.Clean.{Clean}
 use Rattle.mol_spell_rules.specs.FaultList.{Fault}
 use Rattle.mol_table_rules.specs.Program.{Program}
-use Rattle.mol_top_laws.proofs.KeptFaults.{fault-kept, fault_of, kept-same}
 use Rattle.mol_top_laws.proofs.PathsApart.{base_apart}
 use Rattle.mol_top_laws.proofs.Steps.{IsExactStep, SomeRefuses, BothGive, given_as, in_turn, option_step, refused_as, reworded}
 use Rattle.mol_top.specs.Bases.{BaseRefuses, IsBaseOf, IsCleanBase, RefuseFiles, RefuseProgram}

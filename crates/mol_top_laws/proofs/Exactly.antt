@@ -1,11 +1,11 @@
 -- Answers are exact.
-use Rattle.std.proofs.Common.{◌≡◌, ◌⊎◌, inl, inr, ℕ, List, Some, length, sym, ◌∙◌}
+use Rattle.std.proofs.Common.{◌≡◌, ◌⊎◌, inl, inr, ℕ, List, Some, length}
 use Rattle.std.specs.Global.{Global}
 use Rattle.mol_outside.specs.Contents.{Contents}
 use Rattle.mol_spell_files.specs.ProgramTexts.{program_texts}
 use Rattle.mol_table_rules.specs.Program.{Program}
 use Rattle.mol_top_laws.proofs.CleanBases.{base_step, one_program_line}
-use Rattle.mol_top_laws.proofs.Merging.{merge_step}
+use Rattle.mol_top_laws.proofs.Merging as merging
 use Rattle.mol_top_laws.proofs.Replaying as replaying
 use Rattle.mol_top_laws.proofs.Steps.{IsExactStep, SomeRefuses, given_as, in_turn, option_step, reworded}
 use Rattle.mol_top_laws.specs.Exact.{AnswersExact, HasOutcomeOver, IsExact, IsRefused}
@@ -84,7 +84,8 @@ module _ (c : Command) (held : Contents) (step : IsExactStep (Refuses c held) (C
   }
 
 exact : (alloc : Global) (c : Command) (held : Contents) → IsExact c held
-exact alloc (Command.merge w) held = exact-by (Command.merge w) held (merge_step w held) (λ status first second is also. is ∙ sym also)
+exact alloc (Command.merge w) held =
+    exact-by (Command.merge w) held (merging.command_step w held alloc) (one_program_line alloc w.base held)
 exact alloc (Command.check w) held = exact-by (Command.check w) held (check_step alloc w held) (one_program_line alloc w.base held)
 exact alloc (Command.fmt w) held = exact-by (Command.fmt w) held (fmt_step alloc w held) (one_program_line alloc w.base held)
 exact alloc (Command.ids w) held = exact-by (Command.ids w) held (ids_step alloc w held) (one_program_line alloc w.base held)

@@ -1,7 +1,8 @@
 pub mod CleanBases
 pub mod Exactly
-pub mod KeptFaults
+pub mod LogOfBoth
 pub mod Logs
+pub mod Merges
 pub mod Merging
 pub mod PathsApart
 pub mod Replaying

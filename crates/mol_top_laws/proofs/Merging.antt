@@ -1,61 +1,129 @@
--- A merge of renames is refused or comes to an outcome.
-use Rattle.std.proofs.Common.{◌≡◌, ◌⊎◌, inl, inr, ℕ, List, Option, None, Some, is_some, refl, subst, if◌then◌else◌}
-use Rattle.std.specs.Option.{option_or}
+-- A merge comes to an outcome or is refused.
+use Rattle.std.proofs.Common.{◌≡◌, inl, inr, None, Some, refl}
+use Rattle.std.specs.Global.{Global}
+use Rattle.mol_log.specs.declared.log.Log.{Log}
+use Rattle.mol_merge.specs.Outcomes as merges
+use Rattle.mol_merge.specs.declared.outcome.MergeFault.{MergeFault}
 use Rattle.mol_outside.specs.Contents.{Contents}
-use Rattle.mol_renames.specs.declared.log.Log.{Log}
-use Rattle.mol_top_laws.proofs.Steps.{IsExactStep, none_some, one_some}
+use Rattle.mol_table_rules.specs.Program.{Program}
+use Rattle.mol_top_laws.proofs.CleanBases.{base_step}
+use Rattle.mol_top_laws.proofs.Logs.{log_step}
+use Rattle.mol_top_laws.proofs.Merges.{Comes, merge_step}
+use Rattle.mol_top_laws.proofs.Steps.{BothGive, IsExactStep, SomeRefuses, in_turn, option_step, refused_as, reworded}
+use Rattle.mol_top.specs.Answers.{merge_status}
+use Rattle.mol_top.specs.Bases.{BaseRefuses, IsCleanBase}
 use Rattle.mol_top.specs.Command.{MergeWords}
+use Rattle.mol_top.specs.Logs.{IsLogAt, LogRefuses}
+use Rattle.mol_top.specs.Merging.{ComesToOver, MergeComesTo, MergeRefuses, RefusesOver, RefusesWith}
 use Rattle.mol_top.specs.Output.{Outcome}
-use Rattle.mol_top.specs.Refusals.{absent_input, out_refusal}
+use Rattle.mol_top.specs.Refusals.{out_refusal}
 use Rattle.mol_top.specs.declared.status.Status.{Status}
-use Rattle.mol_top.specs.declared.status.Status.TheVariants.{NotBuilt}
-use Rattle.mol_top.specs.renames.Inputs.{base_of, log_at}
-use Rattle.mol_top.specs.renames.MergeOutcome.{MergeComesTo, outcome, outcome_of}
-use Rattle.mol_top.specs.renames.MergeRefusals.{base_refusal, log_refusal, logs_refusal, refusal}
-
--- nothing refuses where neither does
-or-none : {A : Type 0} (first second : Option A) → option_or first second ≡ None → (first ≡ None) × (second ≡ None)
-or-none None second is = (refl, is)
-or-none (Some a) second is = absurd cc
 
 module _ (w : MergeWords) (held : Contents) where
-  -- a log is there where nothing refuses it
-  log_there : (path : List ℕ) → log_refusal w held path ≡ None → log_at w held path ≡ None → ⊥
-  log_there path allowed none =
-      let part = (or-none (absent_input path held) (if is_some (log_at w held path) then None else Some (NotBuilt path)) allowed).1 in
-      let no : Some (NotBuilt path) ≡ None =
-      subst (λ (o : Option Log). (if is_some o then None else Some (NotBuilt path)) ≡ None) none part in
-      absurd cc
+  abbrev UsesOut : Status → Type 0
+  UsesOut status = out_refusal w.out held ≡ Some status
 
-  -- what refuses a merge once its logs are read
-  abbrev from_out : Option Status
-  from_out = option_or (out_refusal w.out held) (logs_refusal (base_of w held) (log_at w held w.first) (log_at w held w.second))
+  abbrev IsFree : Unit {0} → Type 0
+  IsFree u = (out_refusal w.out held ≡ None) × (u ≡ tt)
 
-  abbrev from_second : Option Status
-  from_second = option_or (log_refusal w held w.second) from_out
+  module _ (base : Program) where
+    -- # Over a first log
 
-  parts : refusal w held ≡ None → (log_refusal w held w.first ≡ None) × (log_refusal w held w.second ≡ None)
-  parts none =
-      let after = (or-none (base_refusal w.base held) (option_or (log_refusal w held w.first) from_second) none).1 in
-      let first = or-none (log_refusal w held w.first) from_second after in
-      (first.0, (or-none (log_refusal w held w.second) from_out first.1).0)
+    module _ (first : Log) where
+      abbrev IsNotMerged : Log → Status → Type 0
+      IsNotMerged second status = (fault : MergeFault) × merges.MergeRefuses base first second fault × (status ≡ merge_status fault)
 
-  by_logs : refusal w held ≡ None → (one other : Option Log) → log_at w held w.first ≡ one → log_at w held w.second ≡ other
-      → ((status : Status) × (refusal w held ≡ Some status)) ⊎ ((outcome : Outcome) × MergeComesTo w held outcome)
-  by_logs none (Some one) (Some other) is also =
-      inr (outcome w.out (base_of w held) one other, record { accepted = none; is = rw (is, also) refl })
-  by_logs none None other is also = absurd (log_there w.first (parts none).0 is)
-  by_logs none (Some one) None is also = absurd (log_there w.second (parts none).1 also)
+      abbrev AfterSecond : Log → Status → Type 0
+      AfterSecond second = SomeRefuses UsesOut IsFree (λ u. IsNotMerged second)
 
-  by_refusal : (o : Option Status) → refusal w held ≡ o
-      → ((status : Status) × (refusal w held ≡ Some status)) ⊎ ((outcome : Outcome) × MergeComesTo w held outcome)
-  by_refusal (Some status) is = inl (status, is)
-  by_refusal None is = by_logs is (log_at w held w.first) (log_at w held w.second) refl refl
+      abbrev ComesAfter : Log → Outcome → Type 0
+      ComesAfter second = BothGive IsFree (λ u. Comes base first second w.out)
 
-  pub merge_step : IsExactStep (λ (status : Status). refusal w held ≡ Some status) (MergeComesTo w held)
-  merge_step = record {
-    either = by_refusal (refusal w held) refl;
-    apart = λ status outcome refuses comes. none_some (refusal w held) status refuses comes.accepted;
-    one_refusal = one_some (refusal w held);
-    one_gift = λ first second comes goes. one_some (outcome_of w held) first second comes.is goes.is;
-  }
+      abbrev AnyWith : Status → Type 0
+      AnyWith = SomeRefuses (LogRefuses 2 w.second held) (IsLogAt w.second held) AfterSecond
+
+      abbrev AllWith : Outcome → Type 0
+      AllWith = BothGive (IsLogAt w.second held) ComesAfter
+
+      with-to : (status : Status) → AnyWith status → RefusesWith w base first held status
+      with-to status (inl refused) = RefusesWith.second refused
+      with-to status (inr later) = by later.0 later.1 later.2 where
+        by : (second : Log) → IsLogAt w.second held second → AfterSecond second status → RefusesWith w base first held status
+        by second there (inl uses) = RefusesWith.out second there uses
+        by second there (inr found) =
+            let refused = found.2 in
+            RefusesWith.merge second (record { there = there; free = found.1.0 })
+            (record { fault = refused.0; refuses = refused.1; is = refused.2 })
+
+      with-from : (status : Status) → RefusesWith w base first held status → AnyWith status
+      with-from status (RefusesWith.second refused) = inl refused
+      with-from status (RefusesWith.out second there uses) = inr (second, there, inl uses)
+      with-from status (RefusesWith.merge second has refused) =
+          inr (second, has.there, inr (tt, (has.free, refl), (refused.fault, refused.refuses, refused.is)))
+
+      after_second : (second : Log) → IsExactStep (AfterSecond second) (ComesAfter second)
+      after_second second =
+          in_turn (option_step (out_refusal w.out held) (tt {0}))
+          (λ u free. refused_as (merge_step base first second w.out) merge_status)
+
+      with_step : IsExactStep (RefusesWith w base first held) AllWith
+      with_step =
+          reworded (in_turn (log_step 2 w.second held) (λ second there. after_second second)) with-to with-from
+          (λ outcome given. given) (λ outcome given. given)
+
+    -- # Over a base
+
+    abbrev Any : Status → Type 0
+    Any = SomeRefuses (LogRefuses 1 w.first held) (IsLogAt w.first held) (λ first. RefusesWith w base first held)
+
+    abbrev All : Outcome → Type 0
+    All = BothGive (IsLogAt w.first held) AllWith
+
+    over-to : (status : Status) → Any status → RefusesOver w base held status
+    over-to status (inl refused) = RefusesOver.first refused
+    over-to status (inr later) = RefusesOver.rest later.0 later.1 later.2
+
+    over-from : (status : Status) → RefusesOver w base held status → Any status
+    over-from status (RefusesOver.first refused) = inl refused
+    over-from status (RefusesOver.rest first there refused) = inr (first, there, refused)
+
+    over-comes : (outcome : Outcome) → All outcome → ComesToOver w base held outcome
+    over-comes outcome given =
+        let more = given.2 in
+        let free = more.2 in
+        let made = free.2 in
+        record {
+          first = given.0;
+          second = more.0;
+          has = record { there = given.1; rest = record { there = more.1; free = free.1.0 } };
+          mergeable = made.0;
+          comes = made.1;
+        }
+
+    over-given : (outcome : Outcome) → ComesToOver w base held outcome → All outcome
+    over-given outcome over =
+        let rest = over.has.rest in
+        (over.first, over.has.there, (over.second, rest.there, (tt, (rest.free, refl), (over.mergeable, over.comes))))
+
+    over_step : IsExactStep (RefusesOver w base held) (ComesToOver w base held)
+    over_step = reworded (in_turn (log_step 1 w.first held) (λ first there. with_step first)) over-to over-from over-comes over-given
+
+  -- # The command
+
+  abbrev Refused : Status → Type 0
+  Refused = SomeRefuses (BaseRefuses w.base held) (IsCleanBase w.base held) (λ base. RefusesOver w base held)
+
+  to : (status : Status) → Refused status → MergeRefuses w held status
+  to status (inl refused) = MergeRefuses.base refused
+  to status (inr over) = MergeRefuses.over over.0 over.1 over.2
+
+  from : (status : Status) → MergeRefuses w held status → Refused status
+  from status (MergeRefuses.base refused) = inl refused
+  from status (MergeRefuses.over base clean refused) = inr (base, clean, refused)
+
+  -- a merge is refused or comes to an outcome
+  pub command_step : Global → IsExactStep (MergeRefuses w held) (MergeComesTo w held)
+  command_step alloc =
+      reworded (in_turn (base_step alloc w.base held) (λ base clean. over_step base)) to from
+      (λ outcome given. record { base = given.0; clean = given.1; comes = given.2 })
+      (λ outcome (comes : MergeComesTo w held outcome). (comes.base, comes.clean, comes.comes))

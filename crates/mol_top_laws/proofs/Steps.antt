@@ -32,6 +32,16 @@ module _ {R X : Type 0} (may_refuse : Option R) (x : X) where
     one_gift = λ first second is also. is.1 ∙ sym also.1;
   }
 
+-- what nothing refuses
+pub sure_step : {R X : Type 0} {Gives : X → Type 0} (x : X) → Gives x
+    → ((first second : X) → Gives first → Gives second → first ≡ second) → IsExactStep (λ (refusal : R). ⊥) Gives
+sure_step x given one = record {
+  either = inr (x, given);
+  apart = λ refusal y refused gives. absurd refused;
+  one_refusal = λ first second refused also. absurd refused;
+  one_gift = one;
+}
+
 -- # One after another
 
 -- a step refuses, or the next one does on what it gives

@@ -3,7 +3,7 @@ use Rattle.std.proofs.lemmas.Result.{err_from_is_err_and}
 use Rattle.mol_top.proofs.BaseStops.{base_stopped, program_stopped}
 use Rattle.mol_top.proofs.CheckedBases.{check_prepared}
 use Rattle.mol_top.proofs.ReadBases.{base_carries, unclean_carries}
-use Rattle.mol_top.proofs.renames.Working.{none_written}
+use Rattle.mol_top.proofs.FilesBelow.{none_written}
 use Rattle.mol_top.proofs.checking.prepare_check.Goals as goal
 use Rattle.mol_top.specs.Command.{Command, check_paths}
 use Rattle.mol_top.specs.Outside.{store}

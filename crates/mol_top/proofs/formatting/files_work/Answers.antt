@@ -3,7 +3,7 @@ use Rattle.std.specs.Prelude.{option_map}
 use Rattle.std.proofs.lemmas.Result.{err_from_is_err_and}
 use Rattle.mol_base.specs.Files.{file_pairs}
 use Rattle.mol_top.proofs.formatting.files_work.Goals as goal
-use Rattle.mol_top.proofs.renames.Working.{inside_below}
+use Rattle.mol_top.proofs.FilesBelow.{inside_below}
 use Rattle.mol_top.specs.Answers.{limit_status}
 
 pub returns-in_err-refuse_large-clause-stop : goal.returns-in_err-refuse_large-clause-stop

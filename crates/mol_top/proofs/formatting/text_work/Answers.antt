@@ -2,7 +2,7 @@ use Rattle.std.proofs.Common.{◌∙◌, ap, refl, map, arith}
 use Rattle.std.proofs.lemmas.List.{length-map}
 use Rattle.mol_base.specs.Files.{file_pair, file_pairs}
 use Rattle.mol_top.specs.Output.{failure_of}
-use Rattle.mol_top.proofs.renames.Working.{named_below}
+use Rattle.mol_top.proofs.FilesBelow.{named_below}
 use Rattle.mol_top.proofs.formatting.text_work.Goals as goal
 
 pub returns : goal.returns

@@ -5,7 +5,7 @@ use Rattle.mol_top.specs.Carried.{NoPath}
 
 pub returns-in-Err-clause-stop : goal.returns-in-Err-clause-stop
 returns-in-Err-clause-stop c =
-    large_refused c.args.left c.in-Err.fault c.of.result c.in-Err.ensures.stop (rw (← c.from.ensures) c.of.ensures.status) c.of.ensures.line
+    large_refused c.args.left.now c.in-Err.fault c.of.result c.in-Err.ensures.stop (rw (← c.from.ensures) c.of.ensures.status) c.of.ensures.line
 
 pub returns-in-Err-clause-carries : goal.returns-in-Err-clause-carries
 returns-in-Err-clause-carries c =

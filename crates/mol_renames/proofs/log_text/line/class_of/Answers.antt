@@ -1,8 +1,0 @@
-use Rattle.std.proofs.Common.{◌∙◌, ap, option_and_then}
-use Rattle.mol_base.specs.Spelled.{id_of}
-use Rattle.mol_base.proofs.Spelled.{id_of-parse}
-use Rattle.mol_renames.proofs.log_text.line.class_of.Goals as goal
-
-pub returns : goal.returns
-returns c =
-    id_of-parse c.as_bytes.result.now c.parse.result c.parse.ensures.spells c.parse.ensures.only ∙ ap id_of c.as_bytes.ensures.value ∙ ap (option_and_then id_of) c.in_ok-bytes.ensures

@@ -1,7 +1,0 @@
-use Rattle.std.proofs.Common.{◌≡◌, drop}
-use Rattle.mol_renames.specs.Faults.{same_addresses}
-use Rattle.mol_renames.specs.Rows.{classes_in}
-use Rattle.mol_renames.proofs.same_address.first_pair.Given as goal
-
-abbrev pub invariant-loop-place : goal.invariant-loop-place
-invariant-loop-place l = same_addresses (drop l.place (classes_in l.rows)) ≡ same_addresses (classes_in l.rows)
