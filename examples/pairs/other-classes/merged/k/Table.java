@@ -1,4 +1,0 @@
-package k;
-
-class Table {
-}

@@ -1,9 +1,0 @@
-package shop;
-
-public class Cart {
-    private int count;
-
-    public int total() {
-        return count;
-    }
-}

@@ -1,9 +1,0 @@
-package store;
-
-public class Cart {
-    private int count;
-
-    public int sum() {
-        return count;
-    }
-}
