@@ -15,69 +15,15 @@ reader=$(readlink -f "${2:-$here/../crates/bench_log/out/bench_log}" || true)
 work=$(mktemp -d)
 trap 'rm -rf "$work"' EXIT
 PYTHONDONTWRITEBYTECODE=1 PYTHONPATH=$here python3 - "$program" "$reader" "$work" <<'PY'
-import difflib, itertools, json, os, re, shutil, subprocess, sys, tempfile
+import difflib, itertools, os, re, subprocess, sys
 
 import programs
+from logs import GIT, changes, files_of, listed, log, moved_away, repository
 from measured import RUNS, timed
 
 PROGRAM, READER, WORK = sys.argv[1:]
 CLASSES, ENTRIES = 1000, 65535
 BASE = f"{WORK}/base"
-GIT = ["git", "-c", "user.name=bench", "-c", "user.email=bench@example.org", "-c", "gc.auto=0", "-c", "core.autocrlf=false"]
-
-
-def moved_away(folder):
-    """Makes room for a folder. What stands there is kept under another name: where files were deleted just now, some file systems make new
-    ones slowly."""
-    if os.path.exists(folder):
-        os.rename(folder, tempfile.mkdtemp(dir=WORK) + "/before")
-
-
-def files_of(folder):
-    """The bytes of the files below a folder, by their paths."""
-    found = {}
-    for at, _, names in os.walk(folder):
-        if ".git" not in at.split(os.sep):
-            for name in names:
-                with open(f"{at}/{name}", "rb") as file:
-                    found[os.path.relpath(f"{at}/{name}", folder)] = file.read()
-    return found
-
-
-def listed():
-    """What `ids` prints of the base: its digest, and for each class the identities of the members of each kind, by their addresses."""
-    lines = subprocess.run([PROGRAM, "ids", BASE], capture_output=True, text=True, check=True).stdout.splitlines()
-    ids = {kind: {} for kind in ("class", "field", "decl", "method", "param")}
-    for line in lines[1:]:
-        identity, kind, address = line.split(" ")[:3]
-        ids[kind][address] = identity
-    return lines[0].split(" ")[1], ids
-
-
-def log(path, digest, rows):
-    """Writes a log of these rows, and answers its path."""
-    with open(path, "w") as out:
-        for row in ({"base": digest, "format": 1, "tags": ["ann"]}, *({"at": f"ann@{k}", **row} for k, row in enumerate(rows, 1))):
-            out.write(json.dumps(row, sort_keys=True, separators=(",", ":")) + "\n")
-    return path
-
-
-def changes(ids):
-    """Changes of all methods and fields in turn, again and again: a name, both parameters in the other order, and a first value; and a body
-    of the first method of each class."""
-    turn = 0
-    while True:
-        turn += 1
-        for (address, method), field in zip(ids["method"].items(), itertools.cycle(ids["field"].values())):
-            step, name = (ids["param"][f"{address}#{text}"] for text in ("step", "name"))
-            params = [{"filler": "0", "id": step, "name": "step", "type": ["int"]},
-                      {"filler": "null", "id": name, "name": "name", "type": ["written", "String"]}]
-            yield {"op": "rename-method", "method": method, "name": f"turn{turn}of{method[1:]}"}
-            yield {"op": "change-signature", "method": method, "params": params[:: 1 if turn % 2 else -1], "result": ["int"]}
-            yield {"op": "set-value", "field": field, "type": ["int"], "value": ["binary", "+", "lit", str(turn), "lit", "0x1f"]}
-            if address.endswith(".get1/2"):
-                body = ["block", "2", "let", "plain", "int", "1", "sum", "init", "own", field, "return", "some", "binary", "+", "local", "0", "param", step, "0"]
-                yield {"op": "set-body", "decl": ids["decl"][address], "body": body}
 
 
 def renames(ids):
@@ -100,7 +46,7 @@ def patch(number, path, name):
 def replay(path):
     """The time and the peak memory of replaying a log, and the folder that it left."""
     out = f"{path}.out"
-    seconds, peak = timed([PROGRAM, "replay", BASE, path, out], before=lambda: moved_away(out))
+    seconds, peak = timed([PROGRAM, "replay", BASE, path, out], before=lambda: moved_away(out, WORK))
     return seconds, peak, out
 
 
@@ -113,7 +59,7 @@ def many_entries(digest, ids):
     whole = log(f"{WORK}/many.mol", digest, itertools.islice(changes(ids), ENTRIES))
     half = log(f"{WORK}/half.mol", digest, itertools.islice(changes(ids), ENTRIES // 2))
     print(f"base: {len(files_of(BASE))} files, {sum(map(len, files_of(BASE).values()))} bytes; log: {ENTRIES} entries, {os.path.getsize(whole)} bytes")
-    formatted, format_peak = timed([PROGRAM, "fmt", BASE, f"{WORK}/formatted"], before=lambda: moved_away(f"{WORK}/formatted"))
+    formatted, format_peak = timed([PROGRAM, "fmt", BASE, f"{WORK}/formatted"], before=lambda: moved_away(f"{WORK}/formatted", WORK))
     show("molref fmt of the base", formatted, format_peak)
     ours, peak, out = replay(whole)
     show(f"molref replay of {ENTRIES} entries", ours, peak, f"; ratio to fmt {ours / formatted:.2f}, of the memory {peak / format_peak:.2f}")
@@ -137,23 +83,21 @@ def beside_git(digest, ids):
         out.write("".join(patch(number, file, row["name"]) for number, (file, row) in enumerate(rows, 1)))
     ours, peak, out = replay(path)
     show(f"molref replay of {len(rows)} renames", ours, peak)
-    repository = f"{WORK}/repository"
-    shutil.copytree(BASE, repository)
-    for words in (["init", "-q"], ["add", "-A"], ["commit", "-q", "-m", "base"], ["tag", "base"]):
-        subprocess.run([*GIT, "-C", repository, *words], check=True)
+    copy = f"{WORK}/repository"
+    repository(copy, BASE)
 
     def back():
-        subprocess.run([*GIT, "-C", repository, "reset", "-q", "--hard", "base"], check=True)
+        subprocess.run([*GIT, "-C", copy, "checkout", "-q", "-f", "--detach", "base"], check=True)
 
-    theirs, their_peak = timed([*GIT, "-C", repository, "am", "-q", f"{WORK}/renames.mbox"], before=back)
+    theirs, their_peak = timed([*GIT, "-C", copy, "am", "-q", f"{WORK}/renames.mbox"], before=back)
     show(f"git am of {len(rows)} patches", theirs, their_peak, f"; ratio of replay to it {ours / theirs:.2f}, of the memory {peak / their_peak:.2f}")
-    if files_of(repository) != files_of(out):
+    if files_of(copy) != files_of(out):
         sys.exit("git am and replay leave other files")
 
 
 print(f"cores {len(os.sched_getaffinity(0))}, load {os.getloadavg()[0]:.1f}")
 programs.write(f"{WORK}/sources", programs.generated(CLASSES))
 subprocess.run([PROGRAM, "fmt", f"{WORK}/sources", BASE], stdout=subprocess.DEVNULL, check=True)
-many_entries(*listed())
-beside_git(*listed())
+many_entries(*listed(PROGRAM, BASE))
+beside_git(*listed(PROGRAM, BASE))
 PY
